@@ -1,0 +1,4 @@
+pub mod Registers
+pub mod Vectors
+pub mod Zeros
+pub mod ByteLayout

@@ -1,0 +1,10 @@
+pub mod Absent
+pub mod Digits
+pub mod Fronts
+pub mod Going
+pub mod Looks
+pub mod Marks
+pub mod Parts
+pub mod Runs
+pub mod Spans
+pub mod Unique

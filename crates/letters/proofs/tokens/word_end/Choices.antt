@@ -1,0 +1,12 @@
+use Prim.Native.Nat.{_+_, _-_, _≤_}
+use mathlib.Core.Path.{_≡_}
+use lib.ListN.{length, drop}
+use Rattle.std.specs.shelf.Lists.{leading}
+use Rattle.letters.specs.Classes.{isWord}
+use Rattle.letters.proofs.tokens.word_end.Given as given
+
+abbrev pub Inv-each : given.InvT-each
+Inv-each l = (l .at ≤ l .p) × (l .p ≤ length (l .text)) × (l .at + leading isWord (drop (l .at) (l .text)) ≡ l .p + leading isWord (drop (l .p) (l .text)))
+
+abbrev pub μ-each : given.MeasureT-each
+μ-each l = length (l .text) - l .p
