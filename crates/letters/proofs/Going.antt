@@ -2,7 +2,7 @@
 use mathlib.Core.Path.{_≡_, refl, sym, ap, ap₂, subst, _∙_}
 use mathlib.Core.Bool.{Bool, true, false}
 use mathlib.Core.List.{List, [], _∷_, _++_, append-nil, append-assoc}
-use Prim.Native.Nat.{ℕ, _+_, _-_, _<_, _≤_}
+use Prim.Native.Nat.{ℕ, zero, suc, _+_, _-_, _<_, _≤_}
 use native.Mathlib.Omega.{arith}
 use lib.ListN.{length, take, drop, length-drop, length-append}
 use lib.Seq.{drop-drop, drop-append-seam}
@@ -11,10 +11,10 @@ use Rattle.letters.specs.declared.tokens.Token.{Token}
 use Rattle.letters.specs.declared.tokens.Token.the-variants as case
 use Rattle.letters.specs.declared.tokens.Lexed.{Lexed}
 use Rattle.letters.specs.Classes.{isBlank, every}
-use Rattle.letters.specs.Tokens.{Lexeme, view, Next, token, refused, isEnd, nextAt, Inside}
+use Rattle.letters.specs.Tokens.{Lexeme, end, name, numeral, keyword, symbol, broken, view, Next, token, refused, isEnd, nextAt, Inside}
 use Rattle.letters.specs.Texts.{Piece, Begins, Ending, finished, faulty, MadeOf, pieceOf, pieces}
 use Rattle.letters.proofs.Looks.{Look, look, look-rest}
-use Rattle.letters.proofs.Unique.{behind}
+use Rattle.letters.proofs.Unique.{behind, summary, spelled-some}
 
 -- what is read up to a place: whatever the rest is made of, the whole is made of that behind these tokens
 pub record Goes (text : List ℕ) (at : ℕ) (ps : List Piece) : Type 0 where
@@ -28,7 +28,7 @@ looked : (text : List ℕ) (at : ℕ) (n : Next) → at ≤ length text → n �
 looked text at n h e = subst (Look at (drop at text)) (sym (e ∙ look-rest text at h)) (look at (drop at text))
 
 -- the rest behind a token is the rest of the text from its end on
-rest-is : (text : List ℕ) (at : ℕ) (p : Piece) (rest : List ℕ) → Begins at (drop at text) p rest → rest ≡ drop (p .stop) text
+pub rest-is : (text : List ℕ) (at : ℕ) (p : Piece) (rest : List ℕ) → Begins at (drop at text) p rest → rest ≡ drop (p .stop) text
 rest-is text at p rest b =
     let k = length (b .blanks) in
     let n = length (b .bytes) in
@@ -76,3 +76,36 @@ no-end (case.Name r) h = refl
 no-end (case.Numeral r v) h = refl
 no-end (case.Keyword k) h = refl
 no-end (case.Symbol s) h = refl
+
+-- every text is made of tokens up to its end or to its first fault
+shorter : (at : ℕ) (text : List ℕ) (p : Piece) (rest : List ℕ) → Begins at text p rest → length rest < length text
+shorter at text p rest b =
+    omega (arith, spelled-some (p .token) (b .bytes) (b .spells), simp length-append at (ap length (b .together)))
+
+pub record Made (at : ℕ) (text : List ℕ) : Type 0 where
+  pub tokens : List Piece
+  pub ending : Ending
+  pub made : MadeOf at text tokens ending
+
+module _ (n : ℕ) (less : (at : ℕ) (text : List ℕ) → length text ≤ n → Made at text) where
+  made-more : (at : ℕ) (text : List ℕ) → length text ≤ suc n → (p : Piece) → Begins at text p (behind text) → Made at text
+  made-more at text h p b =
+      let m = less (p .stop) (behind text) (omega (arith, shorter at text p (behind text) b)) in
+      record { tokens = p ∷ m .tokens; ending = m .ending; made = (behind text, b, m .made) }
+
+  made-by : (at : ℕ) (text : List ℕ) → length text ≤ suc n → (x : Next) → Look at text x → Made at text
+  made-by at text h (token end s e) l = record { tokens = []; ending = finished; made = l }
+  made-by at text h (token (name v) s e) l = made-more at text h (record { token = name v; start = s; stop = e }) l
+  made-by at text h (token (numeral ds m) s e) l = made-more at text h (record { token = numeral ds m; start = s; stop = e }) l
+  made-by at text h (token (keyword k) s e) l = made-more at text h (record { token = keyword k; start = s; stop = e }) l
+  made-by at text h (token (symbol x) s e) l = made-more at text h (record { token = symbol x; start = s; stop = e }) l
+  made-by at text h (token (broken r) s e) l = absurd l
+  made-by at text h (refused r place) l = record { tokens = []; ending = faulty r place; made = l }
+
+made-within : (n at : ℕ) (text : List ℕ) → length text ≤ n → Made at text
+made-within zero at [] h = record { tokens = []; ending = finished; made = refl }
+made-within zero at (c ∷ cs) h = absurd (omega arith)
+made-within (suc n) at text h = made-by n (made-within n) at text h (summary at text) (look at text)
+
+pub made : (at : ℕ) (text : List ℕ) → Made at text
+made at text = made-within (length text) at text (omega arith)

@@ -242,7 +242,7 @@ placed-token (keyword k) w s n h = refl
 placed-token (symbol x) w s n h = refl
 placed-token (broken r) w s n h = absurd h
 
-no-end : (l : Lexeme) (w : List ℕ) → Spells l w → isEnd l ≡ false
+pub no-end : (l : Lexeme) (w : List ℕ) → Spells l w → isEnd l ≡ false
 no-end end w h = absurd h
 no-end (name v) w h = refl
 no-end (numeral ds m) w h = refl
@@ -271,11 +271,13 @@ module _ (at : ℕ) (text : List ℕ) where
   begun-rest p rest b =
       ap₂ (λ n t. drop n t) (ap (λ x. x .1) (begun-lexeme p rest b)) (begun-bare p rest b) ∙ drop-append-seam (b .bytes) rest
 
-  pub ended-summary : every isBlank text ≡ true → (k : ℕ) × (summary at text ≡ token end k k)
+  pub ended-summary : every isBlank text ≡ true → summary at text ≡ token end (at + length text) (at + length text)
   ended-summary all =
-      let e : bare text ≡ [] = bare-is text text [] (sym (append-nil text)) all refl in
+      let whole : text ≡ text ++ [] = sym (append-nil text) in
+      let e : bare text ≡ [] = bare-is text text [] whole all refl in
+      let n : leading isBlank text ≡ length text = count-blanks text text [] whole all refl in
       let P : Lexeme × ℕ → Next = λ x. placed (x .0) (at + leading isBlank text) (x .1) in
-      (at + leading isBlank text, ap P (ap lexeme e) ∙ ap (token end (at + leading isBlank text)) (add-zero (at + leading isBlank text)))
+      ap P (ap lexeme e) ∙ ap (token end (at + leading isBlank text)) (add-zero (at + leading isBlank text)) ∙ ap (λ k. token end (at + k) (at + k)) n
 
   pub turned-summary : (r : Reason) (place : ℕ) → Turned at text r place → summary at text ≡ refused r place
   turned-summary r place t =
@@ -286,21 +288,21 @@ module _ (at : ℕ) (text : List ℕ) where
       ∙ ap (refused r) (ap (λ k. at + k) n ∙ sym (t .from))
 
 -- two looks at one text
-token-refused : (l : Lexeme) (s e p : ℕ) (r : Reason) → token l s e ≡ refused r p → ⊥
+pub token-refused : (l : Lexeme) (s e p : ℕ) (r : Reason) → token l s e ≡ refused r p → ⊥
 token-refused l s e p r h = let z : _≡_ {A = ℕ} 0 1 = cc in omega arith
 
-same-token : (l m : Lexeme) (s e t f : ℕ) → token l s e ≡ token m t f → (l ≡ m) × (s ≡ t) × (e ≡ f)
+pub same-token : (l m : Lexeme) (s e t f : ℕ) → token l s e ≡ token m t f → (l ≡ m) × (s ≡ t) × (e ≡ f)
 same-token l m s e t f h = (cc, cc, cc)
 
-same-refusal : (r q : Reason) (p o : ℕ) → refused r p ≡ refused q o → (r ≡ q) × (p ≡ o)
+pub same-refusal : (r q : Reason) (p o : ℕ) → refused r p ≡ refused q o → (r ≡ q) × (p ≡ o)
 same-refusal r q p o h = (cc, cc)
 
 same-ending : (at : ℕ) (text : List ℕ) (f g : Ending) → Ends at text f → Ends at text g → f ≡ g
 same-ending at text finished finished a b = refl
 same-ending at text finished (faulty r p) a b =
-    absurd (token-refused end (ended-summary at text a .0) (ended-summary at text a .0) p r (sym (ended-summary at text a .1) ∙ turned-summary at text r p b))
+    absurd (token-refused end (at + length text) (at + length text) p r (sym (ended-summary at text a) ∙ turned-summary at text r p b))
 same-ending at text (faulty r p) finished a b =
-    absurd (token-refused end (ended-summary at text b .0) (ended-summary at text b .0) p r (sym (ended-summary at text b .1) ∙ turned-summary at text r p a))
+    absurd (token-refused end (at + length text) (at + length text) p r (sym (ended-summary at text b) ∙ turned-summary at text r p a))
 same-ending at text (faulty r p) (faulty q o) a b =
     let e = same-refusal r q p o (sym (turned-summary at text r p a) ∙ turned-summary at text q o b) in
     ap₂ faulty (e .0) (e .1)
@@ -308,8 +310,7 @@ same-ending at text (faulty r p) (faulty q o) a b =
 -- a text that has ended begins with no token
 clash : (at : ℕ) (text : List ℕ) (f : Ending) (p : Piece) (rest : List ℕ) → Ends at text f → Begins at text p rest → ⊥
 clash at text finished p rest a b =
-    let e = ended-summary at text a in
-    let s = same-token end (p .token) (e .0) (e .0) (p .start) (p .stop) (sym (e .1) ∙ begun-summary at text p rest b) in
+    let s = same-token end (p .token) (at + length text) (at + length text) (p .start) (p .stop) (sym (ended-summary at text a) ∙ begun-summary at text p rest b) in
     true≢false (ap isEnd (s .0) ∙ no-end (p .token) (b .bytes) (b .spells))
 clash at text (faulty r o) p rest a b =
     token-refused (p .token) (p .start) (p .stop) o r (sym (begun-summary at text p rest b) ∙ turned-summary at text r o a)

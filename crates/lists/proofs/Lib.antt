@@ -1,0 +1,2 @@
+-- Lemmas for what writes lists.
+pub mod Laws

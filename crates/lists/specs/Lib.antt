@@ -1,0 +1,2 @@
+-- Lists that are written into.
+pub mod Overlay

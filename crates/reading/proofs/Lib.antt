@@ -1,0 +1,11 @@
+pub mod Accepts
+pub mod Aheads
+pub mod Declares
+pub mod Branches
+pub mod Lists
+pub mod Assigns
+pub mod Applications
+pub mod Tables
+pub mod Sequences
+pub mod Terminals
+pub mod Wholes

@@ -1,0 +1,4 @@
+-- The spelling of scripts, in reading order.
+pub mod Spelling
+pub mod Buffers
+pub mod Parts
