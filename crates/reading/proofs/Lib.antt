@@ -2,6 +2,7 @@ pub mod Accepts
 pub mod Aheads
 pub mod Declares
 pub mod Branches
+pub mod Fronts
 pub mod Lists
 pub mod Assigns
 pub mod Applications

@@ -11,6 +11,7 @@ use Prim.Native.Nat.{ℕ, _-_, _<_, _≤_}
 use lib.ListN.{length, replicate}
 use Rattle.std.specs.declared.result.Result.{Result}
 use Rattle.std.specs.declared.result.Result.the-variants.{Ok, Err}
+use Rattle.refusals.specs.declared.Reason.{Reason}
 use Rattle.refusals.specs.declared.Reason.the-variants.{TextTooLong, NoRoom}
 use Rattle.refusals.specs.declared.Refusal.{Refusal}
 use Rattle.letters.specs.Texts.{Piece, Ending, MadeOf}
@@ -26,7 +27,7 @@ use Rattle.syntax.specs.Form.{formRows, formNodes}
 use Rattle.syntax.specs.Emits.{Emits}
 use Rattle.reading.specs.declared.scripts.Used.{Used}
 use Rattle.reading.specs.Grammar.{TextOf}
-use Rattle.reading.specs.Rule.{judge, whole, refused}
+use Rattle.reading.specs.Rule.{Expected, judge, whole, refused}
 
 -- a script is read, and as much of its form is written as finds room
 pub record ScriptRead (text : List ℕ) (ds : List Declaration) (rows : List Row) (nodes : List Node) (ds' : List Declaration) (rows' : List Row) (nodes' : List Node) (used : Used) : Type 0 where
@@ -76,3 +77,16 @@ Outcome text d r n ds rows nodes (Err e) = Blanks d r n ds rows nodes × (Overlo
 -- a text that the rule refuses is the text of no script
 abbrev pub Refused-texts : Type 0
 Refused-texts = (text : List ℕ) (e : Refusal) → Judged text e → (s : Script) → TextOf text s → ⊥
+
+-- the first tokens decide: the text is refused, whatever follows, or what follows is judged on its own
+abbrev pub Decided : ℕ → List Piece → List (List ℕ) → List Expected → Type 0
+Decided long front names K =
+    ((r : Reason) × (place : ℕ) × ((rest : List Piece) (f : Ending) → judge long (front ++ rest) f names K ≡ refused r place))
+    ⊎ ((names' : List (List ℕ)) × (K' : List Expected) × ((rest : List Piece) (f : Ending) → judge long (front ++ rest) f names K ≡ judge long rest f names' K'))
+
+abbrev pub Fronts-decide : Type 0
+Fronts-decide = (long : ℕ) (front : List Piece) (names : List (List ℕ)) (K : List Expected) → Decided long front names K
+
+-- the place of a refusal lies in the text or at its end
+abbrev pub Places-within : Type 0
+Places-within = (text : List ℕ) (e : Refusal) → Judged text e → e .place ≤ length text
