@@ -1,5 +1,6 @@
 pub mod Accepts
 pub mod Aheads
+pub mod Completes
 pub mod Declares
 pub mod Branches
 pub mod Fronts

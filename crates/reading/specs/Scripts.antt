@@ -5,7 +5,7 @@
 -- one of the lists is too short for it. By `Refused-texts` and by `One-script` of Grammar.antt the three exclude each other and the script is
 -- the only one: a text is accepted exactly where it is the text of a script and the lists have room.
 use mathlib.Core.Path.{_≡_}
-use mathlib.Core.List.{List, [], _++_}
+use mathlib.Core.List.{List, [], _∷_, _++_}
 use mathlib.Core.Logic.{_⊎_}
 use Prim.Native.Nat.{ℕ, _-_, _<_, _≤_}
 use lib.ListN.{length, replicate}
@@ -14,7 +14,7 @@ use Rattle.std.specs.declared.result.Result.the-variants.{Ok, Err}
 use Rattle.refusals.specs.declared.Reason.{Reason}
 use Rattle.refusals.specs.declared.Reason.the-variants.{TextTooLong, NoRoom}
 use Rattle.refusals.specs.declared.Refusal.{Refusal}
-use Rattle.letters.specs.Texts.{Piece, Ending, MadeOf}
+use Rattle.letters.specs.Texts.{Piece, Ending, finished, Spells, MadeOf}
 use Rattle.lists.specs.Overlay.{Laid}
 use Rattle.syntax.specs.declared.form.Declaration.{Declaration}
 use Rattle.syntax.specs.declared.form.Node.{Node}
@@ -27,7 +27,7 @@ use Rattle.syntax.specs.Form.{formRows, formNodes}
 use Rattle.syntax.specs.Emits.{Emits}
 use Rattle.reading.specs.declared.scripts.Used.{Used}
 use Rattle.reading.specs.Grammar.{TextOf}
-use Rattle.reading.specs.Rule.{Expected, judge, whole, refused}
+use Rattle.reading.specs.Rule.{Expected, newName, judge, whole, accepted, refused}
 
 -- a script is read, and as much of its form is written as finds room
 pub record ScriptRead (text : List ℕ) (ds : List Declaration) (rows : List Row) (nodes : List Node) (ds' : List Declaration) (rows' : List Row) (nodes' : List Node) (used : Used) : Type 0 where
@@ -86,6 +86,21 @@ Decided long front names K =
 
 abbrev pub Fronts-decide : Type 0
 Fronts-decide = (long : ℕ) (front : List Piece) (names : List (List ℕ)) (K : List Expected) → Decided long front names K
+
+-- each is a token that some bytes spell
+abbrev pub AreTokens : List Piece → Type 0
+AreTokens [] = Unit {0}
+AreTokens (p ∷ ps) = ((w : List ℕ) × Spells (p .token) w) × AreTokens ps
+
+-- the first tokens are refused, or a new name must come next, or some tokens complete them to a script's
+abbrev pub Completable : ℕ → List Piece → List (List ℕ) → List Expected → Type 0
+Completable long front names K =
+    ((r : Reason) × (place : ℕ) × ((rest : List Piece) (f : Ending) → judge long (front ++ rest) f names K ≡ refused r place))
+    ⊎ (((names' : List (List ℕ)) × (K' : List Expected) × ((rest : List Piece) (f : Ending) → judge long (front ++ rest) f names K ≡ judge long rest f names' (newName ∷ K')))
+    ⊎ ((rest : List Piece) × AreTokens rest × (judge long (front ++ rest) finished names K ≡ accepted)))
+
+abbrev pub Fronts-complete : Type 0
+Fronts-complete = (long : ℕ) (front : List Piece) → Completable long front [] whole
 
 -- the place of a refusal lies in the text or at its end
 abbrev pub Places-within : Type 0

@@ -5,7 +5,7 @@ ghost use Prim.Native.Nat.{_≤_};
 ghost use lib.ListN.{length};
 ghost use Rattle.std.specs.Results.{Cases};
 ghost use Rattle.reading.specs.Grammar.{One-script};
-ghost use Rattle.reading.specs.Scripts.{ScriptRead, Judged, Blanks, Outcome, Refused-texts, Fronts-decide, Places-within};
+ghost use Rattle.reading.specs.Scripts.{ScriptRead, Judged, Blanks, Outcome, Refused-texts, Fronts-decide, Fronts-complete, Places-within};
 use super::blocks::list;
 use super::declarations::declare_all;
 use super::progress::Progress;
@@ -118,10 +118,12 @@ fn blank_all(declarations: &mut [Declaration], rows: &mut [Row], nodes: &mut [No
 }
 
 // A text is the text of one script at most, and a text that the left-to-right rule refuses is the text of none. What stands behind a refused
-// token does not matter, and the place of a refusal lies in the text or at its end.
+// token does not matter, and the tokens before it can be completed to a script or wait for a new name. The place of a refusal lies in the text
+// or at its end.
 pub fn reading_laws()
     ensures one_script { λ _. ⌜ One-script ⌝ }
     ensures refused_texts { λ _. ⌜ Refused-texts ⌝ }
     ensures fronts_decide { λ _. ⌜ Fronts-decide ⌝ }
+    ensures fronts_complete { λ _. ⌜ Fronts-complete ⌝ }
     ensures places_within { λ _. ⌜ Places-within ⌝ }
 {}

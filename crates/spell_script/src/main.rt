@@ -14,9 +14,10 @@ use syntax::Row;
 // the most variables of a script
 const VARIABLES: usize = 256;
 
-// Prints the script that three lists hold.
+// Prints the script that three lists hold, spelled in at most so many bytes.
 fn spell_lists<'a>(
     rt: &LibcRuntime,
+    bytes: usize,
     declarations: &'a [Declaration],
     rows: &'a [Row],
     nodes: &'a [Node],
@@ -26,7 +27,7 @@ fn spell_lists<'a>(
         println!(rt, "{refusal}")?;
         return Ok(());
     }
-    let mut text = vec![in rt.alloc(); 0u8; TEXT_BYTES]?;
+    let mut text = vec![in rt.alloc(); 0u8; bytes]?;
     match spell(&program, &mut text) {
         Ok(length) => {
             if length <= text.len() {
@@ -45,15 +46,21 @@ fn run(rt: &LibcRuntime) -> Result<(), AnyError> {
     rt.stdin()
         .take(TEXT_BYTES as u64 + 1)
         .read_to_end(&mut text)?;
-    // a row and a node take a byte of the text at least
+    // the shortest statement of one row has 5 bytes, and an expression has fewer nodes than half the bytes of its statement
     let mut declarations = vec![in heap; Declaration::blank(); VARIABLES]?;
-    let mut rows = vec![in heap; Row::blank(); text.len()]?;
-    let mut nodes = vec![in heap; Node::blank(); text.len()]?;
+    let mut rows = vec![in heap; Row::blank(); text.len() / 5]?;
+    let mut nodes = vec![in heap; Node::blank(); text.len() / 2]?;
     match read(&text, &mut declarations, &mut rows, &mut nodes) {
         Ok(used) => {
             let (d, r, n) = (used.declarations, used.rows, used.nodes);
             if d <= declarations.len() && r <= rows.len() && n <= nodes.len() {
-                spell_lists(rt, &declarations[0..d], &rows[0..r], &nodes[0..n])?;
+                // a token is spelled as it stood, and one byte follows it
+                let bytes = if text.len() < TEXT_BYTES / 2 {
+                    text.len() * 2
+                } else {
+                    TEXT_BYTES
+                };
+                spell_lists(rt, bytes, &declarations[0..d], &rows[0..r], &nodes[0..n])?;
             }
         }
         Err(refusal) => println!(rt, "{refusal}")?,
