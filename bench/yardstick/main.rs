@@ -3,7 +3,10 @@
 //! docs/REFUSALS.md alone, as a yardstick for speed. It is compared with `spell_script`, not verified.
 
 use std::collections::HashMap;
+use std::env;
+use std::hint::black_box;
 use std::io::{self, Read, Write};
+use std::time::Instant;
 
 const MAX_TEXT: usize = 1_048_576;
 const MAX_NAME: usize = 15;
@@ -494,10 +497,25 @@ fn answer(text: &[u8]) -> Answer<Vec<u8>> {
     Ok(spelled)
 }
 
+// The least time of reading the text, of 200 rounds, in nanoseconds. The program read is given up in it.
+fn time_reading(text: &[u8]) -> u128 {
+    let round = || {
+        let start = Instant::now();
+        let read = Reader::new(black_box(text)).and_then(Reader::program).is_ok();
+        black_box(read);
+        start.elapsed().as_nanos()
+    };
+    (0..200).map(|_| round()).min().unwrap_or(0)
+}
+
 fn main() -> io::Result<()> {
     let mut text = Vec::new();
     // One byte beyond the limit is enough to know that a text is too long.
     io::stdin().lock().take(MAX_TEXT as u64 + 1).read_to_end(&mut text)?;
+    if env::args().nth(1).as_deref() == Some("time") {
+        println!("read {} bytes 0 s {} ns", text.len(), time_reading(&text));
+        return Ok(());
+    }
     let output = answer(&text).unwrap_or_else(|refusal| format!("refused {} at {}\n", refusal.number, refusal.place).into_bytes());
     io::stdout().lock().write_all(&output)
 }
