@@ -1,0 +1,1 @@
+-- No definitions: the tests use those of the crate `reading`.
