@@ -139,6 +139,71 @@ fn with_count(count: usize) -> u8 {
     }
 }
 
+// The next of a sequence of numbers without much order.
+fn next(number: u32) -> u32 {
+    number.wrapping_mul(1664525).wrapping_add(1013904223)
+}
+
+fn random_row(number: u32) -> Row {
+    let place = (number >> 8) as usize % 12;
+    let target = (number >> 16) as usize % 12;
+    match number >> 29 {
+        0 => Row::If {
+            condition: place,
+            else_row: target,
+        },
+        1 => Row::Else { end_row: target },
+        2 => Row::EndIf,
+        3 => Row::While {
+            condition: place,
+            end_row: target,
+        },
+        4 => Row::EndWhile { while_row: target },
+        5 => Row::Assign {
+            variable: ((number >> 16) & 0x03) as u8,
+            value: place,
+        },
+        _ => Row::Skip,
+    }
+}
+
+fn random_node(number: u32) -> Node {
+    match number >> 30 {
+        0 => Node::Apply(Operator::Add),
+        1 => Node::Numeral(number >> 1),
+        _ => Node::Variable(((number >> 8) & 0x03) as u8),
+    }
+}
+
+// Random rows. The last opens a while that nothing closes, so that they are no form.
+fn random_rows(from: u32) -> [Row; 9] {
+    let mut number = from;
+    let mut garbage = rows();
+    'rows: for i in 0..9usize {
+        number = next(number);
+        garbage[i] = random_row(number);
+    }
+    garbage[8] = Row::While {
+        condition: 0,
+        end_row: 8,
+    };
+    garbage
+}
+
+fn random_nodes(from: u32) -> [Node; 11] {
+    let mut number = from;
+    let mut garbage = nodes();
+    'nodes: for i in 0..11usize {
+        number = next(number);
+        garbage[i] = random_node(number);
+    }
+    garbage
+}
+
+fn with_random(from: u32) -> u8 {
+    outcome(&declarations(), &random_rows(from), &random_nodes(from))
+}
+
 #[cfg(test)]
 mod tests {
     use super::*;
@@ -149,6 +214,14 @@ mod tests {
         check_eq(outcome(&declarations(), &rows(), &nodes()), 0)?;
         check_eq(outcome(&[], &[], &[]), 0)?;
         check_eq(outcome(&[], &[Row::blank()], &[]), 0)
+    }
+
+    #[test]
+    fn refuses_random_lists() -> Result<(), Fail> {
+        'each: for from in 0..1000u32 {
+            check_eq(with_random(from), 13)?;
+        }
+        Ok(())
     }
 
     #[test]
