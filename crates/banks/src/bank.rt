@@ -32,8 +32,8 @@ pub trait Bank {
 
 // Sets the first n registers to 0, or all of them where there are fewer, and no other.
 pub fn reset<B: Bank>(bank: &mut B, n: usize)
-    ensures after { registers bank.new ≡ cleared n (registers bank.old) }
-    ensures same { frame bank.new ≡ frame bank.old }
+    ensures after { B.registers bank.new ≡ cleared n (B.registers bank.old) }
+    ensures same { B.frame bank.new ≡ B.frame bank.old }
 {
     let end = n.min(bank.count());
     'each: for k in 0..end {

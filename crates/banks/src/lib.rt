@@ -1,4 +1,6 @@
 // Banks: the places where a run keeps its registers, in numbers or in bytes, owned or lent.
+#![tactic(auto)]
+
 mod bank;
 mod byte_banks;
 mod bytes;

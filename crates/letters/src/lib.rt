@@ -1,4 +1,6 @@
 // The letters of a script: classes of bytes, keywords, symbols, numerals, and the tokens that a text is made of.
+#![tactic(auto)]
+
 mod classes;
 mod keywords;
 mod numerals;

@@ -62,7 +62,7 @@ pub trait LevelFamily {
 
 // Whether level a flows to b.
 pub fn flows<F: LevelFamily>(family: &F, a: u32, b: u32) -> bool
-    ensures { result ≡ flows_to (code family.now) (joined family.now) a b }
+    ensures { result ≡ flows_to (F.code family.now) (F.joined family.now) a b }
 {
     match family.join(a, b) {
         Some(c) => c == b,
@@ -73,7 +73,7 @@ pub fn flows<F: LevelFamily>(family: &F, a: u32, b: u32) -> bool
 // The number by which a rewritten script names the joining operator.
 pub fn join_number<F: LevelFamily>(family: &F) -> u8
     ensures number { result ≡ F.Joiner.JoinOperator.number }
-    ensures joins { (a b : ℕ) → code family.now a ≡ true → code family.now b ≡ true → joined_by result a b ≡ Some (pos (joined family.now a b)) }
+    ensures joins { (a b : ℕ) → F.code family.now a ≡ true → F.code family.now b ≡ true → joined_by result a b ≡ Some (pos (F.joined family.now a b)) }
 {
     let operator = F::OPERATOR;
     operator.number()

@@ -1,4 +1,6 @@
 // Families of levels: codes, their join, and the script operator that joins them.
+#![tactic(auto)]
+
 mod family;
 mod ladder;
 mod parties;

@@ -1,4 +1,6 @@
 // Writes into a list that may be too short: what does not fit is dropped, and counting goes on.
+#![tactic(auto)]
+
 ghost use Rattle.std.specs.Prelude.{◌≡◌, ◌+◌, ◌-◌, ◌^◌, ◌<◌, min, [], ◌∷◌, ◌++◌, length, take, replicate};
 ghost use Rattle.lists.specs.Overlay.{overlay, Laid};
 

@@ -1,4 +1,6 @@
 // What scripts and their rewriting mean, and the statement on two runs.
+#![tactic(auto)]
+
 mod answers;
 mod laws;
 

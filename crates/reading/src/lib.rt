@@ -1,4 +1,6 @@
 // Reading a script.
+#![tactic(auto)]
+
 mod blocks;
 mod declarations;
 mod expressions;

@@ -1,4 +1,6 @@
 // Tests of reading a script into lists that are too short or hold something else.
+#![tactic(auto)]
+
 use reading::read;
 use syntax::{Declaration, Node, Row};
 

@@ -1,9 +1,11 @@
 // Refusals: why a call turned its input away, and where.
-ghost use Rattle.std.specs.Prelude.{◌≡◌, Some, Decides};
+#![tactic(auto)]
+
+ghost use Rattle.std.specs.Prelude.{◌≡◌, Some, Decides, nat_eq};
 ghost use Rattle.refusals.specs.Reasons.{reason_number, reason_layer, shown_refusal, NumbersDiffer};
 ghost use Rattle.std.specs.Cmp.Rules.{comparing};
 ghost use Rattle.std.proofs.Common.{rules};
-ghost use Rattle.std.specs.Cmp as Keys;
+ghost use Rattle.std.specs.Ordering.{on};
 
 use std::fmt;
 
@@ -111,11 +113,14 @@ impl Reason {
 }
 
 impl PartialEq for Reason {
-    ghost equals = { λ x y r. Decides r (x ≡ y) };
+    ghost eq = { on reason_number nat_eq };
 
-    ghost laws = { Keys.partial_equiv_from_equiv (Prim.search (comparing, rules)) };
+    ghost laws = { Prim.search (comparing, rules) };
 
-    fn eq(&self, other: &Reason) -> bool {
+    fn eq(&self, other: &Reason) -> bool
+        ensures value { result ≡ on reason_number nat_eq self.now other.now }
+        ensures decides { Decides result (self.now ≡ other.now) }
+    {
         self.number() == other.number()
     }
 }

@@ -1,4 +1,6 @@
 // The worked samples: scripts with what they are rewritten to, and what their runs answer.
+#![tactic(auto)]
+
 ghost use Rattle.samples.specs.Samples.{Samples};
 
 // The worked samples, as one table.

@@ -1,4 +1,6 @@
 // Reads a script from standard input and prints it in the standard layout. A script that is refused prints one line, `refused N at P`.
+#![tactic(auto)]
+
 use letters::TEXT_BYTES;
 use reading::read;
 use spelling::spell;

@@ -1,4 +1,6 @@
 // Spelling a script: its text in the standard layout.
+#![tactic(auto)]
+
 mod expressions;
 mod programs;
 mod rows;

@@ -8,6 +8,8 @@
 //     end;
 //     write 0 y1;
 //     stop 2147483647;
+#![tactic(auto)]
+
 use spelling::spell;
 use syntax::{Declaration, Name, Node, Program, Row};
 use values::Operator;

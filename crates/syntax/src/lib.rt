@@ -1,4 +1,6 @@
 // The syntax of scripts: the three lists that keep a script, and holding such lists as a program.
+#![tactic(auto)]
+
 mod expressions;
 mod form;
 mod held;

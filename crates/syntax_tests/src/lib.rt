@@ -7,6 +7,8 @@
 //         x := (x - 1);
 //     end;
 //     write 0 y;
+#![tactic(auto)]
+
 use refusals::Refusal;
 use syntax::{Declaration, Name, Node, Program, Row};
 use values::Operator;

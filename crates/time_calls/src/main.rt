@@ -1,5 +1,7 @@
 // Takes the time of calls on a script from standard input: the least of some rounds of `read` and of `hold`, in nanoseconds, with the bytes of the
 // text and the rows of the script. A script that is refused prints one line, `refused N at P`.
+#![tactic(auto)]
+
 use letters::TEXT_BYTES;
 use reading::read;
 use std::io::Read;

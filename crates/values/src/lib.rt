@@ -1,4 +1,6 @@
 // Signed 32-bit values and the eight operators of a script.
+#![tactic(auto)]
+
 ghost use Rattle.std.specs.Prelude.{◌≡◌};
 ghost use Rattle.values.specs.Operators.{operate, quotient, number_of, operator_numbered};
 ghost use Rattle.values.specs.Laws.{OperatorLaws};

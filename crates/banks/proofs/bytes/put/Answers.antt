@@ -8,4 +8,4 @@ unfolding put_word
 returns c =
     let v = c.args.v in
     let e : to_z w32 (of_z w32 v) ≡ v = to_z-of_z w32 v c.ranges.v in
-    rw (c.to-be-bytes.ensures, e) refl
+    rw (c.to_be_bytes.ensures, e) refl

@@ -3,10 +3,10 @@ use Rattle.letters.proofs.Runs.{counts_more, counts_stop, counts_end}
 use Rattle.letters.proofs.tokens.word_end.Goals as goal
 
 pub each-preserved : goal.each-preserved
-each-preserved c = (omega arith, omega arith, counts_more _ _ _ _ c.each.invariant.2 c.each-test.true (sym c.if-is-word.ensures))
+each-preserved c = (omega arith, omega arith, counts_more _ _ _ _ c.each.invariant.2 c.each-test.true (sym c.if-is_word.ensures))
 
-pub returns-else-is-word : goal.returns-else-is-word
-returns-else-is-word c = record { within = (omega arith, omega arith); stop = counts_stop _ _ _ _ c.each.invariant.2 c.each-test.true (sym c.if-is-word.ensures) }
+pub returns-else-is_word : goal.returns-else-is_word
+returns-else-is_word c = record { within = (omega arith, omega arith); stop = counts_stop _ _ _ _ c.each.invariant.2 c.each-test.true (sym c.if-is_word.ensures) }
 
 pub returns-after-each : goal.returns-after-each
 returns-after-each c = record { within = (omega arith, omega arith); stop = counts_end _ _ _ _ c.each.invariant.2 c.each-test.false }

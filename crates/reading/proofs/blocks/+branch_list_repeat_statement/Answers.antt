@@ -29,7 +29,7 @@ branch-returns-in-Err-list-2 t c = record {
       let names = heard c.args.names.now in
       let k = c.in-Ok.ensures.read ps f a in
       let A = c.in-Ok-list.ensures.read k.passed.rest f k.passed.ahead in
-      let E = c.in-Ok-take-keyword.ensures.read names A.passed.rest f A.passed.ahead in
+      let E = c.in-Ok-take_keyword.ensures.read names A.passed.rest f A.passed.ahead in
       let q = c.in-Err-list-2.refusal in
       if_fails text names c.args.room ps f k q A E
       (fails_first text names (statements c.args.room ∷ []) (the_keyword word.End ∷ the_symbol mark.Semicolon ∷ []) E.rest f q (c.in-Err-list-2.ensures.read E.rest f E.ahead));
@@ -43,7 +43,7 @@ branch-returns-in-Err-ending t c = record {
       let names = heard c.args.names.now in
       let k = c.in-Ok.ensures.read ps f a in
       let A = c.in-Ok-list.ensures.read k.passed.rest f k.passed.ahead in
-      let E = c.in-Ok-take-keyword.ensures.read names A.passed.rest f A.passed.ahead in
+      let E = c.in-Ok-take_keyword.ensures.read names A.passed.rest f A.passed.ahead in
       let B = c.in-Ok-list-2.ensures.read E.rest f E.ahead in
       let q = c.in-Err-ending.refusal in
       if_fails text names c.args.room ps f k q A E
@@ -54,7 +54,7 @@ pub branch-returns : goal.branch-returns
 branch-returns t c =
     let u = c.in-Ok.ensures.within in
     let v = c.in-Ok-list.ensures.onward in
-    let w = c.in-Ok-take-keyword.ensures.within in
+    let w = c.in-Ok-take_keyword.ensures.within in
     let x = c.in-Ok-list-2.ensures.onward in
     let y = c.in-Ok-ending.ensures.within in
     let few : c.in-Ok-list-2.second.rows + 1 < 2 ^ 64 = omega (arith, x.1, x.2, c.requires.short) in
@@ -66,7 +66,7 @@ branch-returns t c =
           let names = heard c.args.names.now in
           let k = c.in-Ok.ensures.read ps f a in
           let A = c.in-Ok-list.ensures.read k.passed.rest f k.passed.ahead in
-          let E = c.in-Ok-take-keyword.ensures.read names A.passed.rest f A.passed.ahead in
+          let E = c.in-Ok-take_keyword.ensures.read names A.passed.rest f A.passed.ahead in
           let B = c.in-Ok-list-2.ensures.read E.rest f E.ahead in
           let N = c.in-Ok-ending.ensures.read names B.passed.rest f B.passed.ahead in
           if_read text names c.args.room ps f k A c.put.ensures E B c.put-2.ensures N foot;
@@ -293,8 +293,8 @@ statement-returns-else-room-eq0-2 t c =
           (subst (λ n. MatchResult c.repeat.result (λ to. StatementRead text names n (behind_while (c.args.room - 1)) (keyword word.While) g.0 f c.args.rows.now c.args.nodes.now behind c.repeat.new.rows c.repeat.new.nodes to) (λ q. Fails text names (behind_while (c.args.room - 1)) g.0 f q)) (back c.args.room c.if-room-eq0-2.false) (c.repeat.ensures.read g.0 f g.2));
     }
 
-pub statement-returns-in-default-keyword : goal.statement-returns-in-default-keyword
-statement-returns-in-default-keyword t c =
+pub statement-returns-in_default-keyword : goal.statement-returns-in_default-keyword
+statement-returns-in_default-keyword t c =
     let text = c.args.text.now in
     let names = heard c.args.names.now in
     let s = c.in-Ok.lexed.start in
@@ -306,12 +306,12 @@ statement-returns-in-default-keyword t c =
         refl,
         refl,
         over_token text c.args.from.at names c.args.room ps f a (lex.keyword c.in-Keyword.keyword) s e h refl c.in-Ok.ensures.inside.2
-            (word_over names c.args.room c.in-Keyword.keyword c.in-default-keyword.not-Skip c.in-default-keyword.not-If c.in-default-keyword.not-While c.in-default-keyword.not-Write c.in-default-keyword.not-Stop),
+            (word_over names c.args.room c.in-Keyword.keyword c.in_default-keyword.not-Skip c.in_default-keyword.not-If c.in_default-keyword.not-While c.in_default-keyword.not-Write c.in_default-keyword.not-Stop),
       );
     }
 
-pub statement-returns-in-default : goal.statement-returns-in-default
-statement-returns-in-default t c = record {
+pub statement-returns-in_default : goal.statement-returns-in_default
+statement-returns-in_default t c = record {
   onward = tt;
-  read = λ ps f a. (refl, refl, over c.args.text.now c.args.from.at (heard c.args.names.now) c.args.room ps f a c.in-Ok.lexed.token c.in-Ok.lexed.start c.in-Ok.lexed.end c.in-Ok.ensures.next c.in-Ok.ensures.inside.2 c.in-default.not-Name c.in-default.not-Keyword);
+  read = λ ps f a. (refl, refl, over c.args.text.now c.args.from.at (heard c.args.names.now) c.args.room ps f a c.in-Ok.lexed.token c.in-Ok.lexed.start c.in-Ok.lexed.end c.in-Ok.ensures.next c.in-Ok.ensures.inside.2 c.in_default.not-Name c.in_default.not-Keyword);
 }

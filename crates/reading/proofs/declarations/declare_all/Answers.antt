@@ -24,10 +24,10 @@ returns-in-Err c = record {
       g.passes K ∙ fails_fault text c.each.at g.rest f g.ahead (heard (take c.each.count c.each.table)) _ _ c.in-Err.ensures.next (declarations ∷ K);
 }
 
-pub returns-then-not-is-keyword : goal.returns-then-not-is-keyword
-returns-then-not-is-keyword c = record {
+pub returns-then-not-is_keyword : goal.returns-then-not-is_keyword
+returns-then-not-is_keyword c = record {
   within = (c.each.invariant.0, c.each.invariant.1, c.each.invariant.2);
-  read = λ ps f a. (c.each.invariant.3 ps f a, λ qs b K. declarations_over c.args.text.now c.each.at (heard (take c.each.count c.each.table)) qs f b c.in-Ok.lexed.token c.in-Ok.lexed.start c.in-Ok.lexed.end c.in-Ok.ensures.next c.in-Ok.ensures.inside.2 c.if-not-is-keyword.ensures K);
+  read = λ ps f a. (c.each.invariant.3 ps f a, λ qs b K. declarations_over c.args.text.now c.each.at (heard (take c.each.count c.each.table)) qs f b c.in-Ok.lexed.token c.in-Ok.lexed.start c.in-Ok.lexed.end c.in-Ok.ensures.next c.in-Ok.ensures.inside.2 c.if-not-is_keyword.ensures K);
 }
 
 pub returns-in-Err-declaration : goal.returns-in-Err-declaration
@@ -36,7 +36,7 @@ returns-in-Err-declaration c =
     let names = heard (take c.each.count c.each.table) in
     let s = c.in-Ok.lexed.start in
     let e = c.in-Ok.lexed.end in
-    let is = c.if-not-is-keyword.ensures in
+    let is = c.if-not-is_keyword.ensures in
     let h = ap (λ l. token l s e) (sym is) ∙ c.in-Ok.ensures.next in
     record {
       within = tt;
@@ -53,7 +53,7 @@ each-preserved c =
     let names = heard (take c.each.count c.each.table) in
     let s = c.in-Ok.lexed.start in
     let e = c.in-Ok.lexed.end in
-    let is = c.if-not-is-keyword.ensures in
+    let is = c.if-not-is_keyword.ensures in
     let h = ap (λ l. token l s e) (sym is) ∙ c.in-Ok.ensures.next in
     let u = c.in-Ok-declaration.ensures.within in
     let w = c.in-Ok-declaration.read.0 in

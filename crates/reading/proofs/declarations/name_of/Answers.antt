@@ -2,7 +2,7 @@ use Rattle.std.proofs.Common.{◌≡◌, ℕ, ◌-◌, ◌<◌, ◌≤◌, ◌�
 use Rattle.std.proofs.lemmas.List.{get_or_append_left, get_or-append_right, get_or-replicate, length-replicate, get_or_past}
 use Rattle.std.proofs.lemmas.Bool.{cases_lt}
 use Rattle.reading.proofs.declarations.name_of.Goals as goal
-use Rattle.reading.proofs.declarations.name_of.Goals.{then-word-lt-NAME-BYTES, else-word-lt-NAME-BYTES}
+use Rattle.reading.proofs.declarations.name_of.Goals.{then-word-lt-NAME_BYTES, else-word-lt-NAME_BYTES}
 
 zeros : (m k : ℕ) → ◌≡◌ {A = ℕ} (get_or (replicate m 0) k 0) 0
 zeros m k =
@@ -31,9 +31,9 @@ each-preserved c =
 
 pub returns : goal.returns
 returns c =
-    let count : length c.args.word.now ≤ 15 → c.if-word-lt-NAME-BYTES.count ≡ length c.args.word.now =
-    λ h. elim c.if-word-lt-NAME-BYTES.branch [ then-word-lt-NAME-BYTES w ↦ omega (arith, w.count-is) | else-word-lt-NAME-BYTES w ↦ omega (arith, w.count-is) ] in
-    let all : c.each.i ≡ c.if-word-lt-NAME-BYTES.count = omega (arith, c.each-test.false, c.each.auto.i-end) in
+    let count : length c.args.word.now ≤ 15 → c.if-word-lt-NAME_BYTES.count ≡ length c.args.word.now =
+    λ h. elim c.if-word-lt-NAME_BYTES.branch [ then-word-lt-NAME_BYTES w ↦ omega (arith, w.count-is) | else-word-lt-NAME_BYTES w ↦ omega (arith, w.count-is) ] in
+    let all : c.each.i ≡ c.if-word-lt-NAME_BYTES.count = omega (arith, c.each-test.false, c.each.auto.i-end) in
     record {
       length = count;
       bytes = λ h. padded_is c.each.bytes c.args.word.now c.each.invariant.0 h (λ k lt. c.each.invariant.1 k (omega (arith, all, count h))) (λ k le. c.each.invariant.2 k (omega (arith, all, count h)));

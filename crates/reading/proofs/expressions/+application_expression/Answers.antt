@@ -24,33 +24,33 @@ application-returns-in-Err-expression t c = record {
   read = λ ps f a.
       let names = heard c.args.names.now in
       let l = c.in-Ok.ensures.read ps f a in
-      let by = c.in-Ok-take-operator.ensures.read names l.passed.rest f l.passed.ahead in
-      second_fails c.args.text.now names c.args.room ps f c.in-Ok-take-operator.taken.0 c.in-Err-expression.refusal l by
+      let by = c.in-Ok-take_operator.ensures.read names l.passed.rest f l.passed.ahead in
+      second_fails c.args.text.now names c.args.room ps f c.in-Ok-take_operator.taken.0 c.in-Err-expression.refusal l by
       (fails_first c.args.text.now names (expression c.args.room ∷ []) (the_symbol Close ∷ []) by.rest f c.in-Err-expression.refusal (c.in-Err-expression.ensures.read by.rest f by.ahead));
 }
 
-pub application-returns-in-Err-take-symbol : goal.application-returns-in-Err-take-symbol
-application-returns-in-Err-take-symbol t c = record {
+pub application-returns-in-Err-take_symbol : goal.application-returns-in-Err-take_symbol
+application-returns-in-Err-take_symbol t c = record {
   within = tt;
   read = λ ps f a.
       let names = heard c.args.names.now in
       let l = c.in-Ok.ensures.read ps f a in
-      let by = c.in-Ok-take-operator.ensures.read names l.passed.rest f l.passed.ahead in
+      let by = c.in-Ok-take_operator.ensures.read names l.passed.rest f l.passed.ahead in
       let r = c.in-Ok-expression.ensures.read by.rest f by.ahead in
-      second_fails c.args.text.now names c.args.room ps f c.in-Ok-take-operator.taken.0 c.in-Err-take-symbol.refusal l by
-      (fails_then c.args.text.now names (expression c.args.room ∷ []) (the_symbol Close ∷ []) by.rest f (expression_tokens names r.tree) c.in-Ok-expression.read.0 c.in-Err-take-symbol.refusal r.passed (c.in-Err-take-symbol.ensures.read names r.passed.rest f r.passed.ahead));
+      second_fails c.args.text.now names c.args.room ps f c.in-Ok-take_operator.taken.0 c.in-Err-take_symbol.refusal l by
+      (fails_then c.args.text.now names (expression c.args.room ∷ []) (the_symbol Close ∷ []) by.rest f (expression_tokens names r.tree) c.in-Ok-expression.read.0 c.in-Err-take_symbol.refusal r.passed (c.in-Err-take_symbol.ensures.read names r.passed.rest f r.passed.ahead));
 }
 
 pub application-returns : goal.application-returns
 application-returns t c = record {
-  within = (omega (arith, c.in-Ok.ensures.within.0, c.in-Ok-take-operator.ensures.within.0, c.in-Ok-expression.ensures.within.0, c.in-Ok-take-symbol.ensures.within.0), c.in-Ok-take-symbol.ensures.within.1, omega (arith, c.in-Ok-expression.ensures.within.2, c.in-Ok-take-symbol.ensures.within.0));
+  within = (omega (arith, c.in-Ok.ensures.within.0, c.in-Ok-take_operator.ensures.within.0, c.in-Ok-expression.ensures.within.0, c.in-Ok-take_symbol.ensures.within.0), c.in-Ok-take_symbol.ensures.within.1, omega (arith, c.in-Ok-expression.ensures.within.2, c.in-Ok-take_symbol.ensures.within.0));
   read = λ ps f a.
       let names = heard c.args.names.now in
       let l = c.in-Ok.ensures.read ps f a in
-      let by = c.in-Ok-take-operator.ensures.read names l.passed.rest f l.passed.ahead in
+      let by = c.in-Ok-take_operator.ensures.read names l.passed.rest f l.passed.ahead in
       let r = c.in-Ok-expression.ensures.read by.rest f by.ahead in
-      let e = c.in-Ok-take-symbol.ensures.read names r.passed.rest f r.passed.ahead in
-      application c.args.text.now names c.args.room ps f c.in-Ok-take-operator.taken.0 l by r e c.put.ensures;
+      let e = c.in-Ok-take_symbol.ensures.read names r.passed.rest f r.passed.ahead in
+      application c.args.text.now names c.args.room ps f c.in-Ok-take_operator.taken.0 l by r e c.put.ensures;
 }
 
 pub expression-returns-in-Err : goal.expression-returns-in-Err
@@ -155,14 +155,14 @@ expression-returns-else-room-eq0 t c =
           (λ x w. bracket_read text names less ps g.0 f s e g.1 w) (λ x w. bracket_fails text names less ps g.0 f s e g.1 x w) (c.application.ensures.read g.0 f g.2));
     }
 
-pub expression-returns-in-default : goal.expression-returns-in-default
-expression-returns-in-default t c =
+pub expression-returns-in_default : goal.expression-returns-in_default
+expression-returns-in_default t c =
     let text = c.args.text.now in
     let names = heard c.args.names.now in
     let s = c.in-Ok.lexed.start in
     record {
       within = tt;
-      read = λ ps f a. refuses text names (expression c.args.room) ps f c.new-in-default.result Unexpected s c.new-in-default.ensures.0 c.new-in-default.ensures.1
+      read = λ ps f a. refuses text names (expression c.args.room) ps f c.new-in_default.result Unexpected s c.new-in_default.ensures.0 c.new-in_default.ensures.1
           (fails_token text c.args.at ps f a names (expression c.args.room) c.in-Ok.lexed.token s c.in-Ok.lexed.end Unexpected c.in-Ok.ensures.next c.in-Ok.ensures.inside.2
-          (bad_start names c.args.room c.in-Ok.lexed.token c.in-default.not-Numeral c.in-default.not-Name c.in-default.not-Symbol));
+          (bad_start names c.args.room c.in-Ok.lexed.token c.in_default.not-Numeral c.in_default.not-Name c.in_default.not-Symbol));
     }

@@ -6,10 +6,10 @@ use Rattle.reading.specs.Scripts.{Accepted}
 use Rattle.reading.proofs.Wholes.{accepted_read, cramped_read}
 use Rattle.reading.proofs.scripts.read.Goals as goal
 
-pub returns-then-has-room : goal.returns-then-has-room
-returns-then-has-room c =
+pub returns-then-has_room : goal.returns-then-has_room
+returns-then-has_room c =
     let u = c.in-Ok.used in
-    let fits = c.if-has-room.ensures in
+    let fits = c.if-has_room.ensures in
     let A = accepted_read c.in-Ok.ensures (omega (arith, fits.0, c.parse.auto.declarations)) (omega (arith, fits.1, c.parse.auto.rows)) (omega (arith, fits.2, c.parse.auto.nodes)) in
     let ds = c.parse.new.declarations in
     let rs = c.parse.new.rows in
@@ -17,21 +17,21 @@ returns-then-has-room c =
     let d = length c.args.declarations.now in
     let r = length c.args.rows.now in
     let n = length c.args.nodes.now in
-    let e_d = c.blank-then-has-room.ensures ∙ ap (λ x. take u.declarations ds ++ replicate (length ds - u.declarations) x) c.blank.ensures in
-    let e_r = c.blank-then-has-room-3.ensures ∙ ap (λ x. take u.rows rs ++ replicate (length rs - u.rows) x) c.blank-then-has-room-2.ensures in
-    let e_n = c.blank-then-has-room-5.ensures ∙ ap (λ x. take u.nodes ns ++ replicate (length ns - u.nodes) x) c.blank-then-has-room-4.ensures in
-    subst (λ x. Accepted c.args.text.now d r n x c.blank-then-has-room-3.new.xs c.blank-then-has-room-5.new.xs u) (sym e_d)
-    (subst (λ x. Accepted c.args.text.now d r n (take u.declarations ds ++ replicate (length ds - u.declarations) blank_declaration) x c.blank-then-has-room-5.new.xs u) (sym e_r)
+    let e_d = c.blank-then-has_room.ensures ∙ ap (λ x. take u.declarations ds ++ replicate (length ds - u.declarations) x) c.blank.ensures in
+    let e_r = c.blank-then-has_room-3.ensures ∙ ap (λ x. take u.rows rs ++ replicate (length rs - u.rows) x) c.blank-then-has_room-2.ensures in
+    let e_n = c.blank-then-has_room-5.ensures ∙ ap (λ x. take u.nodes ns ++ replicate (length ns - u.nodes) x) c.blank-then-has_room-4.ensures in
+    subst (λ x. Accepted c.args.text.now d r n x c.blank-then-has_room-3.new.xs c.blank-then-has_room-5.new.xs u) (sym e_d)
+    (subst (λ x. Accepted c.args.text.now d r n (take u.declarations ds ++ replicate (length ds - u.declarations) blank_declaration) x c.blank-then-has_room-5.new.xs u) (sym e_r)
     (subst (λ x. Accepted c.args.text.now d r n (take u.declarations ds ++ replicate (length ds - u.declarations) blank_declaration) (take u.rows rs ++ replicate (length rs - u.rows) Skip) x u) (sym e_n) A))
 
-pub returns-else-has-room : goal.returns-else-has-room
-returns-else-has-room c =
-    let b = c.blank-all-else-has-room.ensures in
-    let tight = c.if-has-room.ensures in (
+pub returns-else-has_room : goal.returns-else-has_room
+returns-else-has_room c =
+    let b = c.blank_all-else-has_room.ensures in
+    let tight = c.if-has_room.ensures in (
       record {
         declarations_are = b.declarations_are ∙ ap (λ k. replicate k blank_declaration) c.parse.auto.declarations;
         rows_are = b.rows_are ∙ ap (λ k. replicate k Skip) c.parse.auto.rows;
         nodes_are = b.nodes_are ∙ ap (λ k. replicate k (Numeral 0)) c.parse.auto.nodes;
       },
-      inr (inr (cramped_read c.in-Ok.ensures c.new-else-has-room.result (λ x y z. tight (omega (arith, c.parse.auto.declarations)) (omega (arith, c.parse.auto.rows)) (omega (arith, c.parse.auto.nodes))) c.new-else-has-room.ensures.0 c.new-else-has-room.ensures.1)),
+      inr (inr (cramped_read c.in-Ok.ensures c.new-else-has_room.result (λ x y z. tight (omega (arith, c.parse.auto.declarations)) (omega (arith, c.parse.auto.rows)) (omega (arith, c.parse.auto.nodes))) c.new-else-has_room.ensures.0 c.new-else-has_room.ensures.1)),
     )

@@ -20,24 +20,24 @@ returns-in-Err-expression c = record {
       (fails_first text names (expression 20 ∷ []) (the_symbol Semicolon ∷ []) n.rest f r (c.in-Err-expression.ensures.read n.rest f n.ahead));
 }
 
-pub returns-in-Err-take-symbol : goal.returns-in-Err-take-symbol
-returns-in-Err-take-symbol c = record {
+pub returns-in-Err-take_symbol : goal.returns-in-Err-take_symbol
+returns-in-Err-take_symbol c = record {
   onward = tt;
   read = λ room ps f a.
       let text = c.args.text.now in
       let names = heard c.args.names.now in
       let n = (c.in-Ok.ensures.read names ps f a).0 in
       let e = c.in-Ok-expression.ensures.read n.rest f n.ahead in
-      let r = c.in-Err-take-symbol.refusal in
+      let r = c.in-Err-take_symbol.refusal in
       fails_then text names (a_numeral ∷ []) (expression 20 ∷ the_symbol Semicolon ∷ []) ps f (λ rest. numeral c.in-Ok.taken.0 ∷ rest) c.in-Ok.taken.1 r n
-      (fails_then text names (expression 20 ∷ []) (the_symbol Semicolon ∷ []) n.rest f (expression_tokens names e.tree) c.in-Ok-expression.read.0 r e.passed (c.in-Err-take-symbol.ensures.read names e.passed.rest f e.passed.ahead));
+      (fails_then text names (expression 20 ∷ []) (the_symbol Semicolon ∷ []) n.rest f (expression_tokens names e.tree) c.in-Ok-expression.read.0 r e.passed (c.in-Err-take_symbol.ensures.read names e.passed.rest f e.passed.ahead));
 }
 
 pub returns : goal.returns
 returns c =
     let u = c.in-Ok.ensures.within in
     let v = c.in-Ok-expression.ensures.within in
-    let w = c.in-Ok-take-symbol.ensures.within in
+    let w = c.in-Ok-take_symbol.ensures.within in
     let few : c.args.from.rows + 1 < 2 ^ 64 = omega (arith, c.requires.behind.0, c.requires.within, c.requires.short) in
     let laid = c.push-used.ensures.laid few in
     record {
@@ -47,7 +47,7 @@ returns c =
           let names = heard c.args.names.now in
           let n = c.in-Ok.ensures.read names ps f a in
           let e = c.in-Ok-expression.ensures.read n.0.rest f n.0.ahead in
-          let s = c.in-Ok-take-symbol.ensures.read names e.passed.rest f e.passed.ahead in
+          let s = c.in-Ok-take_symbol.ensures.read names e.passed.rest f e.passed.ahead in
           let t = c.in-Ok.taken.0 in
           record {
             tree = tree.write t e.tree;

@@ -27,8 +27,8 @@ returns-in-Numeral c =
           (passes_token text c.args.at ps f a names a_numeral l s e h refl i.2 (λ K. refl), numeral_bound text c.args.at ps g.0 f c.in-Numeral.digits.now c.in-Numeral.value s e a g.1);
     }
 
-pub returns-in-default : goal.returns-in-default
-returns-in-default c =
+pub returns-in_default : goal.returns-in_default
+returns-in_default c =
     let text = c.args.text.now in
     let s = c.in-Ok.lexed.start in
     let e = c.in-Ok.lexed.end in
@@ -36,5 +36,5 @@ returns-in-default c =
       within = tt;
       read = λ names ps f a. refuses text names a_numeral ps f c.new.result Unexpected s c.new.ensures.0 c.new.ensures.1
           (fails_token text c.args.at ps f a names a_numeral c.in-Ok.lexed.token s e Unexpected c.in-Ok.ensures.next c.in-Ok.ensures.inside.2
-          (bad_numeral names c.in-Ok.lexed.token c.in-default.not-Numeral));
+          (bad_numeral names c.in-Ok.lexed.token c.in_default.not-Numeral));
     }

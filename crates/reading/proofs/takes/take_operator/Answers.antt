@@ -18,7 +18,7 @@ returns-in-Some c =
     let s = c.in-Ok.lexed.start in
     let e = c.in-Ok.lexed.end in
     let o = c.in-Some.operator in
-    let is = sym c.operator-of.ensures ∙ c.in-Some.is in
+    let is = sym c.operator_of.ensures ∙ c.in-Some.is in
     let more = operator_no_end t o is in
     let i = c.in-Ok.ensures.inside in
     record {
@@ -36,5 +36,5 @@ returns-in-None c =
       within = tt;
       read = λ names ps f a. refuses text names operator ps f c.new.result Unexpected s c.new.ensures.0 c.new.ensures.1
           (fails_token text c.args.at ps f a names operator t s e Unexpected c.in-Ok.ensures.next c.in-Ok.ensures.inside.2
-          (bad_operator names t (sym c.operator-of.ensures ∙ c.in-None.is)));
+          (bad_operator names t (sym c.operator_of.ensures ∙ c.in-None.is)));
     }

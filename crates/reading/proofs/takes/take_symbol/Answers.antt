@@ -42,14 +42,14 @@ returns-else-eq c =
           (bad_symbol names c.args.wanted c.in-Ok.lexed.token (λ q. c.if-eq.ensures (same _ _ (sym c.in-Symbol.is ∙ q)))));
     }
 
-pub returns-in-default : goal.returns-in-default
-returns-in-default c =
+pub returns-in_default : goal.returns-in_default
+returns-in_default c =
     let text = c.args.text.now in
     let s = c.in-Ok.lexed.start in
     let e = c.in-Ok.lexed.end in
     record {
       within = tt;
-      read = λ names ps f a. refuses text names (the_symbol c.args.wanted) ps f c.new-in-default.result Unexpected s c.new-in-default.ensures.0 c.new-in-default.ensures.1
+      read = λ names ps f a. refuses text names (the_symbol c.args.wanted) ps f c.new-in_default.result Unexpected s c.new-in_default.ensures.0 c.new-in_default.ensures.1
           (fails_token text c.args.at ps f a names (the_symbol c.args.wanted) c.in-Ok.lexed.token s e Unexpected c.in-Ok.ensures.next c.in-Ok.ensures.inside.2
-          (bad_symbol names c.args.wanted c.in-Ok.lexed.token (c.in-default.not-Symbol c.args.wanted)));
+          (bad_symbol names c.args.wanted c.in-Ok.lexed.token (c.in_default.not-Symbol c.args.wanted)));
     }

@@ -5,4 +5,4 @@ use Rattle.spelling.proofs.Nodes.{name_at}
 use Rattle.spelling.proofs.expressions.put_variable.Goals as goal
 
 pub returns : goal.returns
-returns c = appended_as (ap (λ l. l ++ (32 ∷ [])) (name_at c.args.program.now.declarations.now c.args.variable _ c.requires)) c.put-name.ensures
+returns c = appended_as (ap (λ l. l ++ (32 ∷ [])) (name_at c.args.program.now.declarations.now c.args.variable _ c.requires)) c.put_name.ensures

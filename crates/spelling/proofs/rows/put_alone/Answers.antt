@@ -6,4 +6,4 @@ use Rattle.spelling.proofs.rows.put_alone.Goals as goal
 pub returns : goal.returns
 returns c =
     let small : length c.args.text.now ≤ 18446744073709551615 = omega arith in
-    appended_more small c.put-keyword-begun.ensures c.put-symbol.ensures
+    appended_more small c.put_keyword-begun.ensures c.put_symbol.ensures

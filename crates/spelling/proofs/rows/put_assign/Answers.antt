@@ -6,4 +6,4 @@ use Rattle.spelling.proofs.rows.put_assign.Goals as goal
 pub returns : goal.returns
 returns c = λ e rest h.
     let small : length c.args.text.now ≤ 18446744073709551615 = omega arith in
-    appended_then small c.put-target-named.ensures (λ s. appended_more s (c.put-expression-valued.ensures e rest h) c.put-symbol.ensures)
+    appended_then small c.put_target-named.ensures (λ s. appended_more s (c.put_expression-valued.ensures e rest h) c.put_symbol.ensures)

@@ -6,7 +6,7 @@ use Rattle.spelling.proofs.rows.put_declaration.Goals as goal
 pub returns : goal.returns
 returns c =
     let small : length c.args.text.now ≤ 18446744073709551615 = omega arith in
-    appended_then small c.put-keyword-begun.ensures
-    (λ s. appended_then s c.put-name-named.ensures
-    (λ s. appended_then s c.put-symbol-parted.ensures
-    (λ s. appended_more s c.put-numeral-leveled.ensures c.put-symbol.ensures)))
+    appended_then small c.put_keyword-begun.ensures
+    (λ s. appended_then s c.put_name-named.ensures
+    (λ s. appended_then s c.put_symbol-parted.ensures
+    (λ s. appended_more s c.put_numeral-leveled.ensures c.put_symbol.ensures)))

@@ -15,7 +15,7 @@ each-preserved c =
     let i = c.each.declaration-index in
     let small : length c.args.text.now ≤ 18446744073709551615 = omega arith in
     appended_as (declarations_more (take i ds) (get_or ds i unread) ∙ ap declarations_bytes (sym (take_more ds i unread c.each-test.true)))
-    (appended_more small c.each.invariant c.put-declaration-count.ensures)
+    (appended_more small c.each.invariant c.put_declaration-count.ensures)
 
 pub returns : goal.returns
 returns c = appended_as (ap declarations_bytes (take_all c.each.declaration-index c.args.declarations.now c.each-test.false)) c.each.invariant

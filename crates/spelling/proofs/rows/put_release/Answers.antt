@@ -6,8 +6,8 @@ use Rattle.spelling.proofs.rows.put_release.Goals as goal
 pub returns : goal.returns
 returns c = λ e rest h.
     let small : length c.args.text.now ≤ 18446744073709551615 = omega arith in
-    appended_then small c.put-target-named.ensures
-    (λ s. appended_then s c.put-keyword-released.ensures
-    (λ s. appended_then s c.put-symbol-opened.ensures
-    (λ s. appended_then s (c.put-expression-valued.ensures e rest h)
-    (λ s. appended_more s c.put-symbol-closed.ensures c.put-symbol.ensures))))
+    appended_then small c.put_target-named.ensures
+    (λ s. appended_then s c.put_keyword-released.ensures
+    (λ s. appended_then s c.put_symbol-opened.ensures
+    (λ s. appended_then s (c.put_expression-valued.ensures e rest h)
+    (λ s. appended_more s c.put_symbol-closed.ensures c.put_symbol.ensures))))

@@ -19,7 +19,7 @@ each-preserved c =
     let small : length c.args.text.now ≤ 18446744073709551615 = omega arith in
     let lt : c.each.at < length fs = omega (arith, c.requires.count) in
     appended_as (rows_more (names_held p) (take c.each.at fs) f ∙ ap (rows_bytes (names_held p)) (sym (take_more fs c.each.at skips lt)))
-    (appended_more {vs = row_bytes (names_held p) f} small c.each.invariant c.put-row-count.ensures)
+    (appended_more {vs = row_bytes (names_held p) f} small c.each.invariant c.put_row-count.ensures)
 
 pub returns : goal.returns
 returns c =

@@ -6,4 +6,4 @@ use Rattle.spelling.proofs.rows.put_stop.Goals as goal
 pub returns : goal.returns
 returns c =
     let small : length c.args.text.now ≤ 18446744073709551615 = omega arith in
-    appended_then small c.put-keyword-begun.ensures (λ s. appended_more s c.put-numeral-numbered.ensures c.put-symbol.ensures)
+    appended_then small c.put_keyword-begun.ensures (λ s. appended_more s c.put_numeral-numbered.ensures c.put_symbol.ensures)

@@ -6,6 +6,6 @@ use Rattle.spelling.proofs.rows.put_write.Goals as goal
 pub returns : goal.returns
 returns c = λ e rest h.
     let small : length c.args.text.now ≤ 18446744073709551615 = omega arith in
-    appended_then small c.put-keyword-begun.ensures
-    (λ s. appended_then s c.put-numeral-leveled.ensures
-    (λ s. appended_more s (c.put-expression-valued.ensures e rest h) c.put-symbol.ensures))
+    appended_then small c.put_keyword-begun.ensures
+    (λ s. appended_then s c.put_numeral-leveled.ensures
+    (λ s. appended_more s (c.put_expression-valued.ensures e rest h) c.put_symbol.ensures))

@@ -12,4 +12,4 @@ pub returns : goal.returns
 returns t c =
     let small : length c.args.text.now ≤ 18446744073709551615 = omega arith in
     appended_as (sym (decimal_step c.args.number c.if-number-lt10.false (omega arith)))
-    (appended_more small c.put-digits-count.ensures (appended_one c.push-2.ensures.written c.push-2.ensures.count))
+    (appended_more small c.put_digits-count.ensures (appended_one c.push-2.ensures.written c.push-2.ensures.count))

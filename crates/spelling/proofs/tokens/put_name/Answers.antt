@@ -7,4 +7,4 @@ pub returns-else-name-lt15 : goal.returns-else-name-lt15
 returns-else-name-lt15 c =
     let name = c.args.name.now in
     let kept : length name.bytes ≡ 15 = search rules in
-    appended_as (ap (λ l. l ++ (32 ∷ [])) (take_all 15 name.bytes (omega arith) ∙ sym (take_all name.length name.bytes (omega arith)))) c.put-word-else-name-lt15.ensures
+    appended_as (ap (λ l. l ++ (32 ∷ [])) (take_all 15 name.bytes (omega arith) ∙ sym (take_all name.length name.bytes (omega arith)))) c.put_word-else-name-lt15.ensures

@@ -6,4 +6,4 @@ use Rattle.spelling.proofs.tokens.put_word.Goals as goal
 pub returns : goal.returns
 returns c =
     let small : length c.args.text.now ≤ 18446744073709551615 = omega arith in
-    appended_more small c.put-bytes-count.ensures (appended_one c.push.ensures.written c.push.ensures.count)
+    appended_more small c.put_bytes-count.ensures (appended_one c.push.ensures.written c.push.ensures.count)

@@ -26,4 +26,4 @@ returns-in-err-middle t c = rw c.from-residual.ensures (no_left _ _ _ c.if-at-no
 
 pub returns-in-ok-middle : goal.returns-in-ok-middle
 returns-in-ok-middle t c =
-    both _ _ _ c.if-at-nodes.false _ c.in-Apply.is _ c.if-depth-eq0.false _ c.in-ok-middle.ensures c.expression-end-in-Apply.result c.expression-end-in-Apply.ensures
+    both _ _ _ c.if-at-nodes.false _ c.in-Apply.is _ c.if-depth-eq0.false _ c.in-ok-middle.ensures c.expression_end-in-Apply.result c.expression_end-in-Apply.ensures

@@ -4,15 +4,15 @@ use Rattle.syntax.specs.Names.{all_legal}
 use Rattle.syntax.proofs.Spelled.{legal_more, legal_end}
 use Rattle.syntax.proofs.names.all_legal.Goals as goal
 
-pub returns-then-not-is-legal-declaration : goal.returns-then-not-is-legal-declaration
-returns-then-not-is-legal-declaration c =
+pub returns-then-not-is_legal_declaration : goal.returns-then-not-is_legal_declaration
+returns-then-not-is_legal_declaration c =
     let ds = c.args.declarations.now in
-    sym (c.each.invariant ∙ legal_more ds c.each.d-index (omega arith) ∙ ap (λ x. x && all_legal (drop (c.each.d-index + 1) ds)) (sym c.if-not-is-legal-declaration.ensures))
+    sym (c.each.invariant ∙ legal_more ds c.each.d-index (omega arith) ∙ ap (λ x. x && all_legal (drop (c.each.d-index + 1) ds)) (sym c.if-not-is_legal_declaration.ensures))
 
 pub each-preserved : goal.each-preserved
 each-preserved c =
     let ds = c.args.declarations.now in
-    c.each.invariant ∙ legal_more ds c.each.d-index (omega arith) ∙ ap (λ x. x && all_legal (drop (c.each.d-index + 1) ds)) (sym c.if-not-is-legal-declaration.ensures)
+    c.each.invariant ∙ legal_more ds c.each.d-index (omega arith) ∙ ap (λ x. x && all_legal (drop (c.each.d-index + 1) ds)) (sym c.if-not-is_legal_declaration.ensures)
 
 pub returns : goal.returns
 returns c = sym (c.each.invariant ∙ legal_end c.args.declarations.now c.each.d-index (omega arith))

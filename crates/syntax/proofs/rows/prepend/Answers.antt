@@ -6,19 +6,19 @@ use Rattle.syntax.proofs.rows.prepend.Goals as goal
 pub returns-then-depth-gt0 : goal.returns-then-depth-gt0
 returns-then-depth-gt0 c = record {
   few = omega arith;
-  prepended = λ e l gs s d. then_prepended _ _ e l _ _ gs _ _ c.in-If.is (c.if-is-then.ensures gs s d) s d;
+  prepended = λ e l gs s d. then_prepended _ _ e l _ _ gs _ _ c.in-If.is (c.if-is_then.ensures gs s d) s d;
 }
 
 pub returns-then-depth-gt0-2 : goal.returns-then-depth-gt0-2
 returns-then-depth-gt0-2 c = record {
   few = omega arith;
-  prepended = λ e l gs s d. body_prepended _ _ e l _ _ gs _ _ c.in-While.is (c.if-is-body.ensures gs s d) s d;
+  prepended = λ e l gs s d. body_prepended _ _ e l _ _ gs _ _ c.in-While.is (c.if-is_body.ensures gs s d) s d;
 }
 
 pub returns-then-depth-gt0-3 : goal.returns-then-depth-gt0-3
 returns-then-depth-gt0-3 c = record {
   few = omega arith;
-  prepended = λ e l gs s d. else_prepended _ _ e l _ gs _ _ (omega arith) c.in-Else.is (c.if-is-else.ensures gs s d) s d;
+  prepended = λ e l gs s d. else_prepended _ _ e l _ gs _ _ (omega arith) c.in-Else.is (c.if-is_else.ensures gs s d) s d;
 }
 
 pub returns-then-depth-lt20 : goal.returns-then-depth-lt20

@@ -10,5 +10,5 @@ returns c =
     let k = c.args.k in
     let v = c.args.v in
     let e = simp to_z-of_z at c.write.ensures.after in
-    let Frame : List ℕ → ℕ × List ℕ = λ xs. (c.args.self.now.cells.name, xs) in
+    let Frame : List ℕ → ℕ × List ℕ = λ xs. (c.args.self.now.cells.ghost_name, xs) in
     record { told = c.write.ensures.told; after = ap words e ∙ words-written _ k v f; same = ap Frame (ap left_over e ∙ left_over_written _ k v); bytes = e }

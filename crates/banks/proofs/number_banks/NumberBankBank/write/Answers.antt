@@ -8,7 +8,7 @@ returns c =
     let f = c.ranges.v in
     let k = c.args.k in
     let v = c.args.v in
-    let found = c.deref-mut.ensures.value in
+    let found = c.deref_mut.ensures.value in
     let long : length c.write.new.numbers ≡ c.args.self.now.cells.len = search rules in
     record {
       told = c.write.ensures.told ∙ ap (λ xs. ltb k (length xs)) found;
