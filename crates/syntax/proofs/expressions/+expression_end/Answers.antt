@@ -21,9 +21,9 @@ returns-else-v-count t c = no_variable _ _ _ c.if-at-nodes.false _ _ c.in-Variab
 pub returns-then-depth-eq0 : goal.returns-then-depth-eq0
 returns-then-depth-eq0 t c = too_deep _ _ _ c.if-at-nodes.false _ c.in-Apply.is _ c.if-depth-eq0.true
 
-pub returns-in-err-middle : goal.returns-in-err-middle
-returns-in-err-middle t c = rw c.from-residual.ensures (no_left _ _ _ c.if-at-nodes.false _ c.in-Apply.is _ c.if-depth-eq0.false c.in-err-middle.ensures)
+pub returns-in_err-middle-in-Apply : goal.returns-in_err-middle-in-Apply
+returns-in_err-middle-in-Apply t c = rw c.from_residual.ensures (no_left _ _ _ c.if-at-nodes.false _ c.in-Apply.is _ c.if-depth-eq0.false c.in_err-middle-in-Apply.ensures)
 
-pub returns-in-ok-middle : goal.returns-in-ok-middle
-returns-in-ok-middle t c =
-    both _ _ _ c.if-at-nodes.false _ c.in-Apply.is _ c.if-depth-eq0.false _ c.in-ok-middle.ensures c.expression_end-in-Apply.result c.expression_end-in-Apply.ensures
+pub returns-in_ok-middle-in-Apply : goal.returns-in_ok-middle-in-Apply
+returns-in_ok-middle-in-Apply t c =
+    both _ _ _ c.if-at-nodes.false _ c.in-Apply.is _ c.if-depth-eq0.false _ c.in_ok-middle-in-Apply.ensures c.expression_end-in-Apply.result c.expression_end-in-Apply.ensures

@@ -24,13 +24,13 @@ returns-then-depth-gt0-3 c = record {
 pub returns-then-depth-lt20 : goal.returns-then-depth-lt20
 returns-then-depth-lt20 c = record {
   few = omega arith;
-  prepended = λ e l gs s d. end_prepended _ _ e l gs _ _ c.if-depth-lt20.true c.told-opens s d c.in_EndIf.is;
+  prepended = λ e l gs s d. end_prepended _ _ e l gs _ _ c.if-depth-lt20.true c.told-opens s d c.in-EndIf.is;
 }
 
 pub returns-then-depth-lt20-2 : goal.returns-then-depth-lt20-2
 returns-then-depth-lt20-2 c = record {
   few = omega arith;
-  prepended = λ e l gs s d. back_prepended _ _ e l gs _ _ c.if-depth-lt20-2.true c.told-opens s d _ c.in_EndWhile.is;
+  prepended = λ e l gs s d. back_prepended _ _ e l gs _ _ c.if-depth-lt20-2.true c.told-opens s d _ c.in-EndWhile.is;
 }
 
 pub returns-in-Skip : goal.returns-in-Skip

@@ -4,6 +4,6 @@ use Rattle.syntax.specs.Forms.{script_of}
 use Rattle.syntax.specs.Decoder.{statements_of}
 use Rattle.syntax.proofs.held.Program.empty.Goals as goal
 
-pub invariant-of-result : goal.invariant-of-result
+pub invariant_of-result : goal.invariant_of-result
 unfolding script_of statements_of
-invariant-of-result c = (refl, tt)
+invariant_of-result c = record { ok = refl }

@@ -5,8 +5,8 @@ use Rattle.syntax.proofs.Forms.{held, not_held, found, none_found}
 use Rattle.syntax.proofs.held.Program.hold.Goals as goal
 use Rattle.syntax.proofs.held.Program.hold.Goals.{else-declarations_stand-via-else-declarations_stand, else-declarations_stand-via-then-declarations_stand+else-statements_stand}
 
-pub invariant-of-self : goal.invariant-of-self
-invariant-of-self c = (held c.args.declarations.now c.args.rows.now c.args.nodes.now (sym c.if-declarations_stand.ensures) ∙ sym c.if-statements_stand.ensures, tt)
+pub invariant_of-self : goal.invariant_of-self
+invariant_of-self c = record { ok = held c.args.declarations.now c.args.rows.now c.args.nodes.now (sym c.if-declarations_stand.ensures) ∙ sym c.if-statements_stand.ensures }
 
 pub returns-then-statements_stand : goal.returns-then-statements_stand
 returns-then-statements_stand c =
