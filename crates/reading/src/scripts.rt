@@ -1,5 +1,5 @@
 // Whole scripts.
-ghost use Rattle.std.specs.Prelude.{◌≡◌, ◌≤◌, length, if◌then◌else◌, MatchResult};
+ghost use Rattle.std.specs.Prelude.{◌≡◌, ◌≤◌, length, MatchBool, MatchResult};
 ghost use Rattle.reading.specs.Grammar.{OneScript};
 ghost use Rattle.reading.specs.Scripts.{ScriptRead, Judged, Blanks, Outcome, RefusedTexts, FrontsDecide, FrontsComplete, PlacesWithin};
 
@@ -95,7 +95,7 @@ pub fn read(
 
 // Whether lists of so many places have room for what is used.
 fn has_room(used: Used, declarations: usize, rows: usize, nodes: usize) -> bool
-    ensures { if result then ((used.declarations ≤ declarations) × (used.rows ≤ rows) × (used.nodes ≤ nodes)) else (used.declarations ≤ declarations → used.rows ≤ rows → used.nodes ≤ nodes → ⊥) }
+    ensures { MatchBool result ((used.declarations ≤ declarations) × (used.rows ≤ rows) × (used.nodes ≤ nodes)) (used.declarations ≤ declarations → used.rows ≤ rows → used.nodes ≤ nodes → ⊥) }
 {
     used.declarations <= declarations && used.rows <= rows && used.nodes <= nodes
 }

@@ -1,9 +1,9 @@
 // One token that is expected.
-ghost use Rattle.std.specs.Prelude.{◌≡◌, ℕ, ◌<◌, ◌≤◌, List, [], ◌∷◌, length, IfOk, if◌then◌else◌, MatchResult, ◌≢◌};
+ghost use Rattle.std.specs.Prelude.{◌≡◌, ℕ, ◌<◌, ◌≤◌, List, [], ◌∷◌, length, IfOk, MatchBool, MatchResult, ◌≢◌};
 ghost use Rattle.letters.specs.Texts.{Piece, Ending};
 ghost use Rattle.reading.specs.Grammar.{Terminal, numeral, keyword, symbol, terminal, operator_terminal};
-ghost use Rattle.reading.specs.Rule.{the_keyword, the_symbol, a_numeral, operator as anOperator, symbol_operator, terminal_operator};
-ghost use Rattle.letters.specs.Tokens.{view, keyword as keywordLexeme};
+ghost use Rattle.reading.specs.Rule.{the_keyword, the_symbol, a_numeral, operator as an_operator, symbol_operator, terminal_operator};
+ghost use Rattle.letters.specs.Tokens.{view, keyword as keyword_lexeme};
 ghost use Rattle.reading.specs.Reads.{Ahead, Passed, Fails};
 
 use letters::{Keyword, Symbol, Token, next_token};
@@ -101,7 +101,7 @@ fn operator_of(token: Token) -> Option<Operator>
 pub fn take_operator(text: &[u8], at: usize) -> Result<(Operator, usize), Refusal>
     requires { at ≤ length text.now }
     ensures within { IfOk result (λ x. (at < x.1) × (x.1 ≤ length text.now)) }
-    ensures read { (names : List (List ℕ)) (ps : List Piece) (f : Ending) → Ahead text.now at ps f → MatchResult result (λ x. Passed text.now names (anOperator ∷ []) (λ rest. operator_terminal x.0 ∷ rest) ps f x.1) (λ e. Fails text.now names (anOperator ∷ []) ps f e) }
+    ensures read { (names : List (List ℕ)) (ps : List Piece) (f : Ending) → Ahead text.now at ps f → MatchResult result (λ x. Passed text.now names (an_operator ∷ []) (λ rest. operator_terminal x.0 ∷ rest) ps f x.1) (λ e. Fails text.now names (an_operator ∷ []) ps f e) }
 {
     let lexed = match next_token(text, at) {
         Ok(lexed) => lexed,
@@ -115,7 +115,7 @@ pub fn take_operator(text: &[u8], at: usize) -> Result<(Operator, usize), Refusa
 
 // Whether a token is that keyword.
 pub fn is_keyword(token: Token, wanted: Keyword) -> bool
-    ensures { if result then (view token.entry ≡ keywordLexeme wanted) else (view token.entry ≢ keywordLexeme wanted) }
+    ensures { MatchBool result (view token.entry ≡ keyword_lexeme wanted) (view token.entry ≢ keyword_lexeme wanted) }
 {
     match token {
         Token::Keyword(keyword) => keyword == wanted,

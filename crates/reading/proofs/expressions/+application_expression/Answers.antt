@@ -1,4 +1,6 @@
-use Rattle.std.proofs.Common.{◌≡◌, ℕ, suc, ◌+◌, ◌-◌, ◌^◌, ◌<◌, List, [], ◌∷◌, length, sym, refl, ap, ◌∙◌, subst, arith, MatchResult}
+use denote.Enum.Bare.{same_true, same_false}
+use Rattle.std.proofs.Common.{◌≡◌, ℕ, suc, ◌+◌, ◌-◌, ◌^◌, ◌<◌, List, [], ◌∷◌, length, sym, refl, ap, ◌∙◌, subst, arith, rules, MatchResult}
+use Rattle.letters.specs.contracts.symbols.Symbol.{the_type}
 use Rattle.std.proofs.lemmas.Bool.{cond-true}
 use Rattle.refusals.specs.declared.Reason.TheVariants.{Unexpected, Undeclared, TooDeep}
 use Rattle.letters.specs.declared.symbols.Symbol.{Symbol}
@@ -61,7 +63,7 @@ expression-returns-else-eq t c =
     let text = c.args.text.now in
     let names = heard c.args.names.now in
     let s = c.in-Ok.lexed.start in
-    let bad : Bad names (expression c.args.room) (view c.in-Ok.lexed.token) Unexpected = subst (λ x. Bad names (expression c.args.room) (view x) Unexpected) (sym c.in-Symbol.is) (bad_mark names c.args.room c.in-Symbol.symbol c.if-eq.ensures) in
+    let bad : Bad names (expression c.args.room) (view c.in-Ok.lexed.token) Unexpected = subst (λ x. Bad names (expression c.args.room) (view x) Unexpected) (sym c.in-Symbol.is) (bad_mark names c.args.room c.in-Symbol.symbol (same_false the_type _ _ (sym c.if-eq.ensures))) in
     record {
       within = tt;
       read = λ ps f a. refuses text names (expression c.args.room) ps f c.new-else-eq.result Unexpected s c.new-else-eq.ensures.0 c.new-else-eq.ensures.1
@@ -73,7 +75,7 @@ expression-returns-then-room-eq0 t c =
     let text = c.args.text.now in
     let names = heard c.args.names.now in
     let s = c.in-Ok.lexed.start in
-    let opens : c.in-Symbol.symbol ≡ Open = c.if-eq.ensures in
+    let opens : c.in-Symbol.symbol ≡ Open = same_true the_type (search rules) _ _ (sym c.if-eq.ensures) in
     let bad : Bad names (expression c.args.room) (view c.in-Ok.lexed.token) TooDeep = subst (λ x. Bad names (expression c.args.room) (view x) TooDeep) (sym (c.in-Symbol.is ∙ ap case.Symbol opens)) (bad_depth names c.args.room c.if-room-eq0.true) in
     record {
       within = tt;
@@ -141,7 +143,7 @@ expression-returns-else-room-eq0 t c =
     let s = c.in-Ok.lexed.start in
     let e = c.in-Ok.lexed.end in
     let less = c.args.room - 1 in
-    let is = c.in-Symbol.is ∙ ap case.Symbol c.if-eq.ensures in
+    let is = c.in-Symbol.is ∙ ap case.Symbol (same_true the_type (search rules) _ _ (sym c.if-eq.ensures)) in
     let h = ap (λ t. token (view t) s e) (sym is) ∙ c.in-Ok.ensures.next in
     let i = subst (λ t. Inside text c.args.at (token (view t) s e)) is c.in-Ok.ensures.inside in
     let m = moved text c.args.at (lex.symbol Open) s e c.requires.within refl i in

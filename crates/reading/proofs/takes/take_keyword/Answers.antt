@@ -1,4 +1,6 @@
-use Rattle.std.proofs.Common.{◌≡◌, [], ◌∷◌, sym, refl, ap, ◌∙◌, subst}
+use denote.Enum.Bare.{same_true, same_false}
+use Rattle.std.proofs.Common.{◌≡◌, [], ◌∷◌, sym, refl, ap, ◌∙◌, subst, rules}
+use Rattle.letters.specs.contracts.keywords.Keyword.{the_type}
 use Rattle.refusals.specs.declared.Reason.TheVariants.{Unexpected}
 use Rattle.letters.specs.declared.tokens.Token.TheVariants as case
 use Rattle.letters.specs.declared.keywords.Keyword.{Keyword}
@@ -24,7 +26,7 @@ returns-then-eq c =
     let i = subst (λ t. Inside text c.args.at (token (view t) s e)) c.in-Keyword.is c.in-Ok.ensures.inside in
     record {
       within = moved text c.args.at (lex.keyword k) s e c.requires refl i;
-      read = λ names ps f a. subst (λ w. Passed text names (the_keyword w ∷ []) (λ rest. keyword w ∷ rest) ps f e) c.if-eq.ensures (passes_token text c.args.at ps f a names (the_keyword k) (lex.keyword k) s e h refl i.2 (takes_keyword names k));
+      read = λ names ps f a. subst (λ w. Passed text names (the_keyword w ∷ []) (λ rest. keyword w ∷ rest) ps f e) (same_true the_type (search rules) _ _ (sym c.if-eq.ensures)) (passes_token text c.args.at ps f a names (the_keyword k) (lex.keyword k) s e h refl i.2 (takes_keyword names k));
     }
 
 same : (x y : Keyword) → case.Keyword x ≡ case.Keyword y → x ≡ y
@@ -39,7 +41,7 @@ returns-else-eq c =
       within = tt;
       read = λ names ps f a. refuses text names (the_keyword c.args.wanted) ps f c.new.result Unexpected s c.new.ensures.0 c.new.ensures.1
           (fails_token text c.args.at ps f a names (the_keyword c.args.wanted) c.in-Ok.lexed.token s e Unexpected c.in-Ok.ensures.next c.in-Ok.ensures.inside.2
-          (bad_keyword names c.args.wanted c.in-Ok.lexed.token (λ q. c.if-eq.ensures (same _ _ (sym c.in-Keyword.is ∙ q)))));
+          (bad_keyword names c.args.wanted c.in-Ok.lexed.token (λ q. same_false the_type _ _ (sym c.if-eq.ensures) (same _ _ (sym c.in-Keyword.is ∙ q)))));
     }
 
 pub returns-in_default : goal.returns-in_default

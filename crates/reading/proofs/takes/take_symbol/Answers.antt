@@ -1,4 +1,6 @@
-use Rattle.std.proofs.Common.{◌≡◌, [], ◌∷◌, sym, refl, ap, ◌∙◌, subst}
+use denote.Enum.Bare.{same_true, same_false}
+use Rattle.std.proofs.Common.{◌≡◌, [], ◌∷◌, sym, refl, ap, ◌∙◌, subst, rules}
+use Rattle.letters.specs.contracts.symbols.Symbol.{the_type}
 use Rattle.refusals.specs.declared.Reason.TheVariants.{Unexpected}
 use Rattle.letters.specs.declared.tokens.Token.TheVariants as case
 use Rattle.letters.specs.declared.symbols.Symbol.{Symbol}
@@ -24,7 +26,7 @@ returns-then-eq c =
     let i = subst (λ t. Inside text c.args.at (token (view t) s e)) c.in-Symbol.is c.in-Ok.ensures.inside in
     record {
       within = moved text c.args.at (lex.symbol k) s e c.requires refl i;
-      read = λ names ps f a. subst (λ w. Passed text names (the_symbol w ∷ []) (λ rest. symbol w ∷ rest) ps f e) c.if-eq.ensures (passes_token text c.args.at ps f a names (the_symbol k) (lex.symbol k) s e h refl i.2 (takes_symbol names k));
+      read = λ names ps f a. subst (λ w. Passed text names (the_symbol w ∷ []) (λ rest. symbol w ∷ rest) ps f e) (same_true the_type (search rules) _ _ (sym c.if-eq.ensures)) (passes_token text c.args.at ps f a names (the_symbol k) (lex.symbol k) s e h refl i.2 (takes_symbol names k));
     }
 
 same : (x y : Symbol) → case.Symbol x ≡ case.Symbol y → x ≡ y
@@ -39,7 +41,7 @@ returns-else-eq c =
       within = tt;
       read = λ names ps f a. refuses text names (the_symbol c.args.wanted) ps f c.new.result Unexpected s c.new.ensures.0 c.new.ensures.1
           (fails_token text c.args.at ps f a names (the_symbol c.args.wanted) c.in-Ok.lexed.token s e Unexpected c.in-Ok.ensures.next c.in-Ok.ensures.inside.2
-          (bad_symbol names c.args.wanted c.in-Ok.lexed.token (λ q. c.if-eq.ensures (same _ _ (sym c.in-Symbol.is ∙ q)))));
+          (bad_symbol names c.args.wanted c.in-Ok.lexed.token (λ q. same_false the_type _ _ (sym c.if-eq.ensures) (same _ _ (sym c.in-Symbol.is ∙ q)))));
     }
 
 pub returns-in_default : goal.returns-in_default
