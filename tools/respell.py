@@ -19,6 +19,9 @@ STD = {"append", "drop", "take", "length", "set", "map", "get_or", "reverse", "n
 EXCEPT = {
     # a definition that has a namesake in another form, for registers with names
     "has-while": "named_has_while",
+    # a statement beside the record of its parts
+    "Flow-laws": "FlowLawsHold",
+    "Run-laws": "RunLawsHold",
     "Well-formed": "NamedWellFormed",
     "Is-code": "IsMachineCode",
     "first_rows": "named_first_rows",
@@ -45,7 +48,7 @@ EXCEPT = {
 }
 # names that may be the same as a module's, a function's in code or a clause's label: these stand apart from definitions
 APART = {
-    "FlowLaws", "ReadsBack", "RunLaws", "TwoRuns", "flow_laws", "fronts_complete", "fronts_decide", "none_longer", "number_told",
+    "ReadsBack", "TwoRuns", "flow_laws", "fronts_complete", "fronts_decide", "none_longer", "number_told",
     "all_legal", "assigning_row", "class_of", "first_node", "is_blank", "is_body", "is_digit", "is_else", "is_then", "is_word", "keyword_of",
     "keyword_separator", "symbol_operator", "symbol_separator", "one_script", "places_within", "reads_back", "refused_texts", "run_laws",
     "toll_laws",

@@ -2,7 +2,7 @@
 use Rattle.std.proofs.Common.{◌≡◌, ℕ, Bool, true, false, ◌&&◌, eqb, sym, refl, ap, ◌∙◌, ap₂, eqb→eq}
 use mathlib.Core.Bool.{false≢true}
 use Rattle.meaning.specs.Families.{Family, FamilyLaws, IsCode, flows}
-use Rattle.meaning.specs.FlowLaws.{FlowLaws, FlowLaws}
+use Rattle.meaning.specs.FlowLaws.{FlowLaws, FlowLawsHold}
 use Rattle.meaning.proofs.Equal.{eqb_same}
 
 both : (a b : Bool) → (a && b) ≡ true → (a ≡ true) × (b ≡ true)
@@ -39,5 +39,5 @@ module _ (G : Family) (L : FamilyLaws G) where
         tells (G.join a b) c (L.closed a b h.0 k.0) h.1 (L.groups a b c h.0 k.0 h.1 ∙ ap (G.join a) k.2 ∙ h.2);
   }
 
-pub flow_laws : FlowLaws
+pub flow_laws : FlowLawsHold
 flow_laws G L = laws G L

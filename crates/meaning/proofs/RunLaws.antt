@@ -14,7 +14,7 @@ use Rattle.meaning.specs.Families.{Family}
 use Rattle.meaning.specs.Machine.{register, value_of, row_at, registers_after, Shown, silent, printed, no_row, stopped}
 use Rattle.meaning.specs.Rewriting.{variables}
 use Rattle.meaning.specs.Runs.{Progress, is_going, settle, judge, kept_after, sheet_after, program_row, ahead, judged, step, run, taken, too_short, gone, lacks_registers}
-use Rattle.meaning.specs.RunLaws.{AllValues, RunLaws, RunLaws}
+use Rattle.meaning.specs.RunLaws.{AllValues, RunLaws, RunLawsHold}
 use Rattle.meaning.proofs.Together.{going_settle, going_room, Room, kept_room, length_sheet, length_registers}
 use Rattle.meaning.proofs.Endings.{judge-more}
 use Rattle.meaning.proofs.Alone.{run_keeps, all_unit}
@@ -266,7 +266,7 @@ module _ (G : Family) (reader budget : ℕ) (P : Script) where
       after_values (variables P) (row_after_in 0 P.statements) (program_row P t.row) t.bank
       (row_fits (variables P) (row_after_in 0 P.statements) (tree_rows P.statements) (fit_in (variables P) (row_after_in 0 P.statements) 0 P.statements [] wf.legal (omega arith) tt) t.row) j)
 
-pub run_laws : RunLaws
+pub run_laws : RunLawsHold
 run_laws G reader budget P = record {
   settled_stays = settled_stays G reader budget P;
   go_adds = go_adds G reader budget P;

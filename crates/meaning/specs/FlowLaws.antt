@@ -19,5 +19,5 @@ pub record FlowLaws (G : Family) : Type 0 where
   pub join_right : (a b : ℕ) → IsCode G a → IsCode G b → flows G b (G.join a b) ≡ true
   pub join_least : (a b c : ℕ) → flows G a c ≡ true → flows G b c ≡ true → flows G (G.join a b) c ≡ true
 
-abbrev pub FlowLaws : Type 0
-FlowLaws = (G : Family) → FamilyLaws G → FlowLaws G
+abbrev pub FlowLawsHold : Type 0
+FlowLawsHold = (G : Family) → FamilyLaws G → FlowLaws G

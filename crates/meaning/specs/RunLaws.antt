@@ -37,5 +37,5 @@ pub record RunLaws (G : Family) (reader budget : ℕ) (P : Script) : Type 0 wher
   -- values
   pub values_stay : WellFormed P → (n : ℕ) (s : Progress) → AllValues s.bank → AllValues (run G reader budget P n s).bank
 
-abbrev pub RunLaws : Type 0
-RunLaws = (G : Family) (reader budget : ℕ) (P : Script) → RunLaws G reader budget P
+abbrev pub RunLawsHold : Type 0
+RunLawsHold = (G : Family) (reader budget : ℕ) (P : Script) → RunLaws G reader budget P

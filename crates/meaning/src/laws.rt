@@ -1,7 +1,7 @@
 // The statement on two runs and the laws around it, each on the contract of a function, for whoever reads or uses the definitions.
 ghost use Rattle.meaning.specs.Confinement.{Confined, ConfinedFor};
-ghost use Rattle.meaning.specs.FlowLaws.{FlowLaws};
-ghost use Rattle.meaning.specs.RunLaws.{RunLaws};
+ghost use Rattle.meaning.specs.FlowLaws.{FlowLawsHold};
+ghost use Rattle.meaning.specs.RunLaws.{RunLawsHold};
 ghost use Rattle.meaning.specs.Structured.{StructuredRuns};
 ghost use Rattle.meaning.specs.Tolls.{TollLaws};
 ghost use Rattle.meaning.specs.WellFormedness.{RewrittenScripts};
@@ -15,7 +15,7 @@ pub fn confinement_stands()
 
 // And so for every family that implements the trait.
 pub fn confinement_for<F: LevelFamily>(family: &F)
-    ensures { ConfinedFor (record { code = code family.now; join = joined family.now; operator = Joiner-as-JoinOperator.number }) }
+    ensures { ConfinedFor (record { code = F.code family.now; join = F.joined family.now; operator = F.Joiner.JoinOperator.number }) }
 {}
 
 // A rewritten script is a script again: its lists can be held.
@@ -30,12 +30,12 @@ pub fn toll_laws()
 
 // What holds of every run: settled standings stay, steps add up, lines stay, values stay values.
 pub fn run_laws()
-    ensures { RunLaws }
+    ensures { RunLawsHold }
 {}
 
 // What flows to what is a partial order, and the join is its least upper bound.
 pub fn flow_laws()
-    ensures { FlowLaws }
+    ensures { FlowLawsHold }
 {}
 
 // A run takes the steps, shows the lines and leaves the registers that the structure of its script says.
