@@ -8,7 +8,10 @@ fn negative_number_in_bytes(rt: HostRuntime) -> Result<(), Fail> {
     assert_eq!(rt; bank.count(), 2);
     assert!(rt; bank.write(1, -2));
     assert_eq!(rt; bank.read(1), Some(-2));
-    assert_eq!(rt; bank.cells(), &[7, 7, 7, 7, 255, 255, 255, 254, 7, 7, 7]);
+    assert_eq!(rt;
+        bank.cells(),
+        [7, 7, 7, 7, 255, 255, 255, 254, 7, 7, 7].as_slice()
+    );
     Ok(())
 }
 
@@ -36,6 +39,6 @@ fn numbers_given_back(rt: HostRuntime) -> Result<(), Fail> {
     let mut bank = NumberBank::new(vec![in rt.alloc(); 3, 4]?);
     assert!(rt; bank.write(1, -4));
     reset(&mut bank, 1);
-    assert_eq!(rt; bank.into_cells().as_slice(), &[0, -4]);
+    assert_eq!(rt; bank.into_cells().as_slice(), [0, -4].as_slice());
     Ok(())
 }

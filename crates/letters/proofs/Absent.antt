@@ -1,5 +1,5 @@
 -- Words that are no keyword.
-use Rattle.std.proofs.Common.{◌≡◌, ℕ, Bool, true, false, cond, List, [], ◌∷◌, Some, None, codes, IsUtf8, sym, refl, ap, ◌∙◌, ⊎_elim}
+use Rattle.std.proofs.Common.{◌≡◌, ℕ, true, false, List, [], ◌∷◌, None, codes, IsUtf8, refl, ◌∙◌, ⊎_elim}
 use lib.Utf8.{scalars, encodes, encode}
 use Rattle.std.specs.Str.{bytes_eq}
 use Rattle.std.proofs.lemmas.Bool.{cond-false, cases_Bool}

@@ -1,5 +1,5 @@
 -- The token at the front of a text, by what its first byte is.
-use Rattle.std.proofs.Common.{◌≡◌, ℕ, ◌+◌, ◌-◌, ◌<◌, ◌≤◌, Bool, true, false, cond, ◌&&◌, eqb, List, [], ◌∷◌, length, get_or, take, drop, sym, refl, ap, ◌∙◌, ⊎_elim, add-zero, arith, get_or-drop, eq-eqb}
+use Rattle.std.proofs.Common.{◌≡◌, ℕ, ◌<◌, ◌≤◌, Bool, true, false, cond, ◌&&◌, eqb, List, [], ◌∷◌, length, get_or, take, drop, sym, refl, ap, ◌∙◌, ⊎_elim, add-zero, arith, get_or-drop, eq-eqb}
 use Rattle.std.specs.List.{prefix_len}
 use Rattle.std.proofs.lemmas.Bool.{cond-true, cond-false, cases_Bool, and_parts, eqb-true, true≢false}
 use Rattle.std.proofs.lemmas.Bool.Decides.{nat_tests}
@@ -9,7 +9,7 @@ use Rattle.letters.specs.declared.classes.Class.{Class}
 use Rattle.letters.specs.declared.classes.Class.TheVariants.{Stranger, Letter, Digit, Blank, Symbol}
 use Rattle.letters.specs.Classes.{is_letter, is_digit, is_word, is_blank, is_symbol, class_of}
 use Rattle.letters.specs.Symbols.{symbol_of}
-use Rattle.letters.specs.Tokens.{Lexeme, end, symbol, word_lexeme, digits_lexeme, marked, follows, lexeme}
+use Rattle.letters.specs.Tokens.{end, symbol, word_lexeme, digits_lexeme, marked, lexeme}
 
 pub front_word : (bs : List ℕ) → 0 < length bs → is_letter (get_or bs 0 0) ≡ true → lexeme bs ≡ (word_lexeme (take (prefix_len is_word bs) bs), prefix_len is_word bs)
 front_word [] h l = absurd (omega arith)

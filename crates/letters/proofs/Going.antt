@@ -1,12 +1,11 @@
 -- Tokens read one after the other.
-use Rattle.std.proofs.Common.{◌≡◌, ℕ, zero, suc, ◌+◌, ◌-◌, ◌<◌, ◌≤◌, Bool, true, false, List, [], ◌∷◌, ◌++◌, length, take, drop, sym, refl, ap, ◌∙◌, subst, ap₂, append_assoc, append-nil, arith, length-append, length-drop, drop-drop}
+use Rattle.std.proofs.Common.{◌≡◌, ℕ, zero, suc, ◌+◌, ◌<◌, ◌≤◌, false, List, [], ◌∷◌, ◌++◌, length, drop, sym, refl, ap, ◌∙◌, subst, append_assoc, append-nil, arith, length-append, drop-drop}
 use lib.Seq.{drop-append_seam}
 use Rattle.refusals.specs.declared.Reason.{Reason}
 use Rattle.letters.specs.declared.tokens.Token.{Token}
 use Rattle.letters.specs.declared.tokens.Token.TheVariants as case
 use Rattle.letters.specs.declared.tokens.Lexed.{Lexed}
-use Rattle.letters.specs.Classes.{is_blank, every}
-use Rattle.letters.specs.Tokens.{Lexeme, end, name, numeral, keyword, symbol, broken, view, Next, token, refused, is_end, next_at, Inside}
+use Rattle.letters.specs.Tokens.{end, name, numeral, keyword, symbol, broken, view, Next, token, refused, is_end, next_at}
 use Rattle.letters.specs.Texts.{Piece, Begins, Ending, finished, faulty, MadeOf, piece_of, pieces}
 use Rattle.letters.proofs.Looks.{Look, look, look_rest}
 use Rattle.letters.proofs.Unique.{behind, summary, spelled_some}

@@ -1,5 +1,5 @@
 -- What one look at a text gives, from a place on.
-use Rattle.std.proofs.Common.{◌≡◌, ℕ, zero, suc, ◌+◌, ◌-◌, ◌<◌, ◌≤◌, min, Bool, true, false, List, [], ◌∷◌, ◌++◌, length, take, drop, sym, refl, ap, ◌∙◌, subst, ap₂, ⊎_elim, append-nil, arith, length-append, length-drop, take-append-drop, length-take, drop-drop}
+use Rattle.std.proofs.Common.{◌≡◌, ℕ, ◌+◌, ◌<◌, ◌≤◌, min, true, List, [], ◌++◌, length, take, drop, sym, refl, ap, ◌∙◌, subst, ⊎_elim, append-nil, arith, length-drop, take-append-drop, length-take, drop-drop}
 use Rattle.std.specs.List.{prefix_len}
 use Rattle.std.proofs.lemmas.List.Sums.{prefix_len-le-length}
 use Rattle.std.proofs.lemmas.List.{drop_all}
@@ -7,9 +7,9 @@ use Rattle.std.proofs.lemmas.Bool.{true≢false, cases_lt}
 use Rattle.refusals.specs.declared.Reason.{Reason}
 use Rattle.letters.specs.declared.tokens.Token.{Token}
 use Rattle.letters.specs.declared.tokens.Token.TheVariants as case
-use Rattle.letters.specs.Classes.{is_blank, every, begins}
-use Rattle.letters.specs.Tokens.{Lexeme, end, name, numeral, keyword, symbol, broken, lexeme, Next, token, refused, placed, is_end, start_of, next_from, next_at, Inside, view}
-use Rattle.letters.specs.Texts.{Spells, takes_in, Fault, Piece, Begins, Turned}
+use Rattle.letters.specs.Classes.{is_blank, every}
+use Rattle.letters.specs.Tokens.{Lexeme, end, name, numeral, keyword, symbol, broken, lexeme, Next, token, refused, placed, start_of, next_from, next_at, Inside, view}
+use Rattle.letters.specs.Texts.{Fault, Begins, Turned}
 use Rattle.letters.proofs.Parts.{Fits, Parts, Cut, cut, short}
 use Rattle.letters.proofs.Spans.{span_every, span_stops}
 use Rattle.letters.proofs.Unique.{bare, summary, behind, fault_some}

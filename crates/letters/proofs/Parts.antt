@@ -1,27 +1,22 @@
 -- The token that a text begins with, found by its first byte, is one that the bytes spell and that could not be longer; and there is
 -- no other.
-use Rattle.std.proofs.Common.{◌≡◌, ℕ, zero, suc, ◌+◌, ◌<◌, ◌≤◌, Bool, true, false, cond, not, ◌&&◌, ◌||◌, eqb, leb, ◌⊎◌, List, [], ◌∷◌, ◌++◌, length, get_or, take, drop, Some, None, codes, Option, sym, refl, ap, ◌∙◌, subst, inl, inr, ⊎_elim, arith, take-append-drop, length-take, le-leb, leb-false, leb-true}
-use lib.Seq.{take-append_seam}
+use Rattle.std.proofs.Common.{◌≡◌, ℕ, ◌<◌, ◌≤◌, true, false, ◌&&◌, eqb, leb, List, [], ◌∷◌, ◌++◌, length, take, drop, Some, None, Option, sym, refl, ap, ◌∙◌, subst, inl, inr, ⊎_elim, arith, leb-false, leb-true}
 use Rattle.std.specs.List.{prefix_len}
-use Rattle.std.specs.Str.{bytes_eq}
-use Rattle.std.proofs.lemmas.Slice.Eq.{bytes_eq-Decides}
 use Rattle.std.proofs.lemmas.List.Sums.{prefix_len-le-length}
 use Rattle.std.proofs.lemmas.Bool.{cond-true, cond-false, cases_Bool, and_parts, eqb-true, true≢false}
 use Rattle.std.proofs.lemmas.Bool.Decides.{nat_tests}
-use Rattle.refusals.specs.declared.Reason.{Reason}
-use Rattle.refusals.specs.declared.Reason.TheVariants.{StrayByte, Malformed, Unexpected, Undeclared, BadDeclaration, TooDeep, NoRoom, TextTooLong, NotACode, Reserved, TooLarge, BankTooSmall, NotAForm, NoSuchVariable, MoreToDo, NoSuchLine, TooShort}
+use Rattle.refusals.specs.declared.Reason.TheVariants.{Malformed}
 use Rattle.letters.specs.declared.keywords.Keyword.{Keyword}
 use Rattle.letters.specs.declared.symbols.Symbol.{Symbol}
-use Rattle.letters.specs.declared.symbols.Symbol.TheVariants.{Assign, Colon, Semicolon, Open, Close, Plus, Minus, Times, Over, Equals, Less, Bar}
-use Rattle.letters.specs.Classes.{is_letter, is_digit, is_word, is_blank, is_symbol, every, begins}
-use Rattle.letters.specs.Keywords.{keywords, lookup, keyword_of}
-use Rattle.letters.specs.Numerals.{numeral_of, well_formed_digits, value_from}
-use Rattle.letters.specs.Symbols.{symbol_of, symbol_bytes}
+use Rattle.letters.specs.declared.symbols.Symbol.TheVariants.{Assign}
+use Rattle.letters.specs.Classes.{is_letter, is_digit, is_word, is_blank, every, begins}
+use Rattle.letters.specs.Keywords.{keyword_of}
+use Rattle.letters.specs.Numerals.{numeral_of}
+use Rattle.letters.specs.Symbols.{symbol_of}
 use Rattle.letters.specs.Tokens.{Lexeme, end, name, numeral, keyword, symbol, broken, named, word_lexeme, counted, digits_lexeme, marked, follows, lexeme}
-use Rattle.letters.specs.Texts.{Word, Name, Spells, takes_in, widens, Fault, Overlong, NoNumeral, is_stranger}
-use Rattle.letters.proofs.Fronts.{front_word, front_digits, front_assign, front_mark}
-use Rattle.letters.proofs.Marks.{symbol_bytes_lem, no_symbol, none_of, not_widened, letter_word, letter_no_blank, digit_no_blank, digit_no_letter, stranger, stranger_parts}
-use Rattle.letters.proofs.Spans.{span_every, span_stops, span_is, span_some, begins-take, begins_never, begins_some, begins_within}
+use Rattle.letters.specs.Texts.{Word, Spells, takes_in, Fault}
+use Rattle.letters.proofs.Marks.{symbol_bytes_lem, no_symbol, not_widened, letter_word, stranger}
+use Rattle.letters.proofs.Spans.{span_every, span_stops, span_some, begins-take, begins_never, begins_some, begins_within}
 
 -- a token from its bytes on, and the rest behind them
 pub record Fits (l : Lexeme) (w rest : List ℕ) : Type 0 where

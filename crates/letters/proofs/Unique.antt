@@ -1,12 +1,11 @@
 -- A text is made of tokens in one way, and no token could have been longer.
-use Rattle.std.proofs.Common.{◌≡◌, ℕ, zero, suc, ◌+◌, ◌-◌, ◌<◌, ◌≤◌, Bool, true, false, cond, not, ◌&&◌, ◌||◌, eqb, leb, ◌⊎◌, List, [], ◌∷◌, ◌++◌, length, get_or, take, drop, Some, None, codes, Option, sym, refl, ap, ◌∙◌, subst, ap₂, inl, inr, ⊎_elim, append-nil, add-zero, arith, length-append, length-drop, length-take, eq-eqb, le-leb}
+use Rattle.std.proofs.Common.{◌≡◌, ℕ, suc, ◌+◌, ◌-◌, ◌<◌, Bool, true, false, cond, ◌&&◌, ◌||◌, eqb, leb, ◌⊎◌, List, [], ◌∷◌, ◌++◌, length, get_or, take, drop, Some, None, sym, refl, ap, ◌∙◌, subst, ap₂, inl, inr, ⊎_elim, append-nil, add-zero, arith, length-append, eq-eqb, le-leb}
 use borrow.Author.Tests.{lt-leb}
 use lib.Seq.{take-append_seam, drop-append_seam, take-append-add}
 use Rattle.std.specs.List.{prefix_len}
 use Rattle.std.specs.Str.{bytes_eq}
 use Rattle.std.proofs.lemmas.Slice.Eq.{bytes_eq-Decides}
-use Rattle.std.proofs.lemmas.Bool.{cond-true, cond-false, cases_Bool, and_parts, eqb-true, true≢false}
-use Rattle.std.proofs.lemmas.Bool.Decides.{nat_tests}
+use Rattle.std.proofs.lemmas.Bool.{cond-true, cond-false, cases_Bool, and_parts, true≢false}
 use Rattle.refusals.specs.declared.Reason.{Reason}
 use Rattle.refusals.specs.declared.Reason.TheVariants.{StrayByte, Malformed, Unexpected, Undeclared, BadDeclaration, TooDeep, NoRoom, TextTooLong, NotACode, Reserved, TooLarge, BankTooSmall, NotAForm, NoSuchVariable, MoreToDo, NoSuchLine, TooShort}
 use Rattle.letters.specs.declared.keywords.Keyword.{Keyword}
@@ -15,12 +14,11 @@ use Rattle.letters.specs.declared.symbols.Symbol.TheVariants.{Assign, Colon, Sem
 use Rattle.letters.specs.Classes.{is_letter, is_digit, is_word, is_blank, is_symbol, every, begins}
 use Rattle.letters.specs.Keywords.{keywords, lookup, keyword_of}
 use Rattle.letters.specs.Numerals.{numeral_of, well_formed_digits, value_from}
-use Rattle.letters.specs.Symbols.{symbol_of, symbol_bytes}
-use Rattle.letters.specs.Tokens.{Lexeme, end, name, numeral, keyword, symbol, broken, named, word_lexeme, counted, digits_lexeme, marked, follows, lexeme, Next, token, refused, placed, is_end}
-use Rattle.letters.specs.Texts.{Word, Name, Spells, takes_in, widens, Fault, Overlong, NoNumeral, is_stranger, Piece, Begins, Turned, Ending, finished, faulty, Ends, MadeOf, OneWay, NoneLonger}
-use Rattle.letters.proofs.Fronts.{front_word, front_digits, front_assign, front_mark}
+use Rattle.letters.specs.Symbols.{symbol_bytes}
+use Rattle.letters.specs.Tokens.{Lexeme, end, name, numeral, keyword, symbol, broken, named, word_lexeme, counted, digits_lexeme, marked, lexeme, Next, token, refused, placed, is_end}
+use Rattle.letters.specs.Texts.{Word, Spells, takes_in, widens, Fault, Overlong, NoNumeral, is_stranger, Piece, Begins, Turned, Ending, finished, faulty, Ends, MadeOf, OneWay, NoneLonger}
+use Rattle.letters.proofs.Fronts.{front_word, front_digits, front_mark}
 use Rattle.letters.proofs.Marks.{none_of, letter_no_blank, digit_no_blank, digit_no_letter, stranger_parts}
-use Rattle.letters.proofs.Parts.{Fits}
 use Rattle.letters.proofs.Spans.{span_is, begins_some, and_true}
 
 -- every keyword is a word

@@ -3,7 +3,7 @@
 -- For what writes a list piece by piece: `laid_none` begins, `laid_one` is one write, `laid_more` puts one run behind another,
 -- `laid_slot` fills a place that was left free in front of a run, and `laid_as` renames the list that was laid.
 -- `laid-whole` and `blank-behind` say what a list holds in the end.
-use Rattle.std.proofs.Common.{◌≡◌, ℕ, zero, suc, ◌+◌, ◌-◌, ◌<◌, ◌≤◌, List, [], ◌∷◌, ◌++◌, length, take, drop, set, replicate, sym, refl, ap, ◌∙◌, append-nil, suc-le-suc, zero-le, add-zero, add-suc, suc-add, zero-add, add-one, arith, length-append}
+use Rattle.std.proofs.Common.{◌≡◌, ℕ, zero, suc, ◌+◌, ◌-◌, ◌<◌, ◌≤◌, List, [], ◌∷◌, ◌++◌, length, take, drop, set, replicate, sym, refl, ap, ◌∙◌, add-zero, add-suc, suc-add, add-one, arith, length-append}
 use Rattle.std.proofs.lemmas.List.{length-replicate, replicate_more}
 use Rattle.lists.specs.Overlay.{overlay, Laid}
 

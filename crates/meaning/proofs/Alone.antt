@@ -1,6 +1,5 @@
 -- What one run keeps, call by call.
-use Rattle.std.proofs.Common.{◌≡◌, ℕ, zero, suc, Bool, true, false, cond, List, [], ◌∷◌, ◌++◌, length, ℤ, sym, refl, ap, ◌∙◌, subst, ap₂}
-use mathlib.Core.Bool.{false≢true}
+use Rattle.std.proofs.Common.{◌≡◌, ℕ, zero, suc, Bool, true, false, cond, List, [], ◌∷◌, ◌++◌, ℤ, refl}
 use Rattle.syntax.specs.Scripts.{Script}
 use Rattle.meaning.specs.declared.answers.Line.{Line}
 use Rattle.meaning.specs.declared.answers.Call.{Call}

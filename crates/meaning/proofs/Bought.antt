@@ -1,11 +1,10 @@
 -- A rewritten run that ends with nothing withheld keeps the lines that the script as bought keeps, in no more steps.
-use Rattle.std.proofs.Common.{◌≡◌, ℕ, zero, suc, ◌-◌, ◌<◌, ◌≤◌, Bool, true, false, cond, ◌||◌, eqb, List, [], ◌∷◌, ◌++◌, length, sym, refl, ap, ◌∙◌, subst, ap₂, arith}
-use mathlib.Core.Bool.{false≢true}
-use Rattle.meaning.proofs.NamedCode.{natural, Origin, bought, withholding, stopping, Laid, lay, takes_else_lem, Interpretation, Value, Exp, num, var, op, Reg, own, level, mark, guard, Code, cassign, cseq, cif, cwhile, Row, rskip, rassign, rrelease, rwrite, rstop, rif, relse, rend, rwhile, rback, rnone, eval, next, shows, after}
+use Rattle.std.proofs.Common.{◌≡◌, ℕ, zero, suc, ◌-◌, ◌<◌, ◌≤◌, Bool, true, false, cond, ◌||◌, eqb, List, [], ◌∷◌, length, sym, refl, ap, ◌∙◌, subst, ap₂, arith}
+use Rattle.meaning.proofs.NamedCode.{natural, bought, Laid, lay, takes_else_lem, Interpretation, Value, Exp, num, var, op, Reg, own, guard, Code, cassign, cseq, cif, cwhile, Row, rstop, rif, rnone, eval, next, shows, after}
 use Rattle.meaning.specs.Machine.{line_of, Shown, silent, printed, no_row, stopped}
 use Rattle.meaning.proofs.Placed.{Placed}
 use Rattle.meaning.proofs.Registers.{same_reg, set, effect, effect_by}
-use Rattle.meaning.proofs.NamedRules.{Script, nil, skip, assign, release, write, seq, if, while, named_has_while, assigns, rising, toll, pads, own_exp, level_exp, mark_exp, guard_exp, stop_check_lem, raise, branch, rewrite}
+use Rattle.meaning.proofs.NamedRules.{Script, nil, skip, assign, release, write, seq, if, while, named_has_while, assigns, rising, toll, pads, own_exp, stop_check_lem, raise, branch, rewrite}
 use Rattle.meaning.proofs.Programs.{at, named_first_rows, laid, program, plain, named_plain_rows}
 use Rattle.meaning.specs.declared.answers.Line.{Line}
 use Rattle.meaning.proofs.Laying.{placed, Noted, noted, has_at, at_end_lem}

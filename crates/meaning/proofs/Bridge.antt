@@ -3,22 +3,19 @@
 -- `named_in` turns a list of statements into a sequence of two parts. `onto` puts numbers for the names of code again, in front of a rest. The rows of
 -- what `onto` gives are the rows that the code is laid out to, with numbers for names; and what `onto` gives of the named rewriting is the
 -- rewriting of the rules. So row p of the rewritten script is row p of the named one, and likewise for the script as bought and for the places.
-use Rattle.std.proofs.Common.{◌≡◌, ℕ, zero, suc, ◌+◌, ◌-◌, ◌<◌, max, Bool, true, false, cond, ◌&&◌, ◌||◌, eqb, List, [], ◌∷◌, ◌++◌, map, length, replicate, ℤ, pos, negsuc, Some, None, Option, sym, refl, ap, ◌∙◌, subst, ap₂, append_assoc, add-zero, add_assoc, zero-add, one-add, arith}
+use Rattle.std.proofs.Common.{◌≡◌, ℕ, zero, suc, ◌+◌, ◌-◌, max, Bool, true, false, cond, ◌&&◌, ◌||◌, List, [], ◌∷◌, ◌++◌, map, pos, Some, None, Option, sym, refl, ap, ◌∙◌, ap₂, append_assoc, add-zero, zero-add, arith}
 use mathlib.Core.Path.{fun_ext}
 use mathlib.Core.Bool.{false≢true}
 use Rattle.values.specs.declared.Operator.{Operator}
 use Rattle.values.specs.declared.Operator.TheVariants.{Equal, Less, Maximum}
 use Rattle.syntax.specs.Trees as tree
 use Rattle.syntax.specs.Trees.{Expression, number, variable, apply, Statement, Statements, none, then, join, single, nesting_of, nesting_in}
-use Rattle.syntax.specs.Parts.{row_counts}
-use Rattle.syntax.specs.Form.{TreeRow, branches, leaves, closes, repeats, goes_back, row_after_of, row_after_in, tree_rows_of, tree_rows_in, tree_rows}
+use Rattle.syntax.specs.Form.{TreeRow, branches, leaves, closes, repeats, goes_back, row_after_in, tree_rows_in, tree_rows}
 use Rattle.meaning.specs.Families.{Family, joiner}
 use Rattle.meaning.specs.Machine.{row_at}
 use Rattle.meaning.specs.Rules.{level_register, mark_register, guard_register, level_of, mark_of, guard_of, guarded_level, has_while, has_while_in, changes, changes_in, raised, toll, tolls, padding, stop_check, rewritten_arms, rewritten_of, rewritten_in}
 use Rattle.meaning.specs.Rules as rule
 use Rattle.meaning.specs.Rewriting.{never_stops, never_stops_in, first_rows}
-use Rattle.meaning.specs.Places.{Place, plain, plain_rows, arm_places, branch_places, check_places, places_of, places_in}
-use Rattle.meaning.specs.Places as place
 use Rattle.meaning.proofs.NamedCode.{Interpretation, Exp, num, var, op, Reg, own, level, mark, guard, Code, cnil, cskip, cassign, crelease, cwrite, cstop, cseq, cif, cwhile, Origin, bought, withholding, stopping, inside, withholds, Row, Laid, laid-at, lay, after, natural}
 use Rattle.meaning.proofs.NamedRules.{Script, nil, skip, assign, release, write, seq, if, while, plus, named_has_while, assigns, rising, pads, own_exp, level_exp, mark_exp, guard_exp, stop_check_lem, raise, branch, rewrite}
 use Rattle.meaning.proofs.NamedRules as named

@@ -1,20 +1,19 @@
 -- The places of a rewritten script are the places of the named rows: place p belongs to row p.
-use Rattle.std.proofs.Common.{◌≡◌, ℕ, zero, suc, ◌+◌, ◌-◌, Bool, true, false, cond, ◌&&◌, ◌||◌, List, [], ◌∷◌, ◌++◌, map, length, replicate, ℤ, pos, sym, refl, ap, ◌∙◌, subst, ap₂, append_assoc, add-zero, one-add}
+use Rattle.std.proofs.Common.{◌≡◌, ℕ, zero, suc, ◌+◌, ◌-◌, Bool, true, false, ◌||◌, List, [], ◌∷◌, ◌++◌, length, replicate, ℤ, sym, refl, ap, ◌∙◌, ap₂, append_assoc, add-zero, one-add}
 use mathlib.Core.Bool.{false≢true}
 use Rattle.values.specs.declared.Operator.{Operator}
 use Rattle.syntax.specs.Trees as tree
 use Rattle.syntax.specs.Trees.{Expression, Statement, Statements, none, then, join}
 use Rattle.syntax.specs.Parts.{row_counts}
 use Rattle.meaning.specs.Families.{Family, joiner}
-use Rattle.meaning.specs.Rules.{guard_register, has_while_in, changes_in, raised, tolls, rewritten_in}
-use Rattle.meaning.specs.Rules as rule
+use Rattle.meaning.specs.Rules.{guard_register, has_while_in, raised, tolls, rewritten_in}
 use Rattle.meaning.specs.Rewriting.{never_stops, never_stops_in}
 use Rattle.meaning.specs.Places.{Place, plain, plain_rows, arm_places, branch_places, check_places, places_of, places_in, place_at}
-use Rattle.meaning.proofs.NamedCode.{Interpretation, Exp, op, Reg, guard, Code, cassign, cseq, cif, cwhile, bought, relse, rend, rback, Laid, laid-at, lay, after}
+use Rattle.meaning.proofs.NamedCode.{Interpretation, Exp, op, Reg, guard, Code, cassign, cseq, cif, bought, rback, Laid, laid-at, lay, after}
 use Rattle.meaning.proofs.NamedRules.{named_has_while, pads, own_exp, level_exp, guard_exp, stop_check_lem, raise, branch, rewrite}
 use Rattle.meaning.proofs.NamedRules as named
 use Rattle.meaning.proofs.Programs.{at, named_first_rows}
-use Rattle.meaning.proofs.Bridge.{exp_of, named_of, named_in, onto, both_true, join_none, toll-onto, rules_in, while_in, raised_is}
+use Rattle.meaning.proofs.Bridge.{exp_of, named_of, named_in, both_true, join_none, toll-onto, rules_in, while_in, raised_is}
 
 abbrev pub place_of : Laid Reg → Place
 place_of x = record { depth = x.depth; test = x.test }

@@ -1,11 +1,10 @@
 -- Two runs from `open` on, call by call.
-use Rattle.std.proofs.Common.{◌≡◌, ℕ, zero, suc, ◌+◌, ◌-◌, ◌<◌, ◌≤◌, Bool, true, false, cond, eqb, ltb, List, [], ◌∷◌, ◌++◌, length, get_or, take, set, ℤ, pos, Some, None, Option, sym, refl, ap, ◌∙◌, subst, ap₂, subst₂, arith, eqb→eq, ltb→lt, length-set, get_or-take}
+use Rattle.std.proofs.Common.{◌≡◌, ℕ, zero, suc, ◌+◌, ◌-◌, ◌<◌, ◌≤◌, Bool, true, false, cond, eqb, ltb, List, [], ◌∷◌, length, get_or, set, ℤ, pos, sym, refl, ap, ◌∙◌, subst, ap₂, subst₂, arith, eqb→eq, ltb→lt, length-set, get_or-take}
 use mathlib.Core.Bool.{false≢true}
 use native.Mathlib.Decide.{dec_lt}
 use Rattle.std.proofs.lemmas.List.{get_or-set_same, get_or-set_other}
 use Rattle.refusals.specs.declared.Reason.TheVariants as reason
 use Rattle.banks.specs.Cleared.{cleared}
-use Rattle.syntax.specs.Trees.{nesting_in}
 use Rattle.syntax.specs.Scripts.{Script, WellFormed}
 use Rattle.meaning.specs.declared.answers.Line.{Line}
 use Rattle.meaning.specs.declared.answers.Call.{Call}
@@ -13,12 +12,12 @@ use Rattle.meaning.specs.declared.answers.Call.TheVariants.{Enter, Start, Go, Fi
 use Rattle.meaning.specs.declared.answers.Answer.{Answer}
 use Rattle.meaning.specs.declared.answers.Answer.TheVariants.{LeftOut, Done, Started, Went, Kept, Sums, Refused}
 use Rattle.meaning.specs.Families.{Family, FamilyLaws, IsCode, flows}
-use Rattle.meaning.specs.Machine.{register, value_of, line_of, IfReleases}
+use Rattle.meaning.specs.Machine.{register, line_of}
 use Rattle.meaning.specs.Rewriting.{variables, levels_of, Rewritable, rewritten}
-use Rattle.meaning.specs.Runs.{Progress, lines, is_going, refusal, enterable, enter_answer, lacks_registers, entered_bank, opened_bank, started, judge_start, program_row, run, taken, too_short, go_answer, gone, finish_answer, line_answer, totals_answer}
+use Rattle.meaning.specs.Runs.{Progress, is_going, refusal, enterable, enter_answer, lacks_registers, entered_bank, opened_bank, started, program_row, run, taken, line_answer}
 use Rattle.meaning.specs.Sessions.{Session, filling, under_way, closed, entries, enter_all, opening_bank, carry, answers_from, session_after, taken_by, taken_from}
 use Rattle.meaning.specs.Confinement.{All, kept_lines, AlikeCall, same, above, AlikeCalls, no_calls, more_calls}
-use Rattle.meaning.proofs.NamedCode.{Interpretation, Value, Reg, own}
+use Rattle.meaning.proofs.NamedCode.{Interpretation, Value, own}
 use Rattle.meaning.proofs.Interpretations.{machine, machine_laws, Flows}
 use Rattle.meaning.proofs.Programs.{level_at_lem, program, nesting}
 use Rattle.meaning.proofs.TwoRuns.{two_runs}

@@ -1,10 +1,8 @@
 -- Rewritten scripts are confined.
-use Rattle.std.proofs.Common.{◌≡◌, ℕ, zero, suc, ◌+◌, ◌<◌, ◌≤◌, Bool, true, false, cond, ◌&&◌, ltb, List, [], ◌∷◌, ◌++◌, length, ℤ, pos, Some, None, Option, sym, refl, ap, ◌∙◌, subst, ap₂, arith, nltb→le}
-use mathlib.Core.Bool.{false≢true}
+use Rattle.std.proofs.Common.{◌≡◌, ℕ, suc, ◌+◌, ◌<◌, ◌≤◌, Bool, true, false, cond, ◌&&◌, ltb, List, [], ◌∷◌, length, ℤ, pos, Some, None, sym, refl, ap, ◌∙◌, subst, arith, nltb→le}
 use native.Mathlib.Decide.{dec_lt}
-use Rattle.refusals.specs.declared.Refusal.{Refusal}
 use Rattle.refusals.specs.declared.Reason.TheVariants as reason
-use Rattle.syntax.specs.Trees.{Expression, nesting_in}
+use Rattle.syntax.specs.Trees.{Expression}
 use Rattle.syntax.specs.Scripts.{Script, WellFormed}
 use Rattle.meaning.specs.declared.answers.Line.{Line}
 use Rattle.meaning.specs.declared.answers.Standing.TheVariants.{Ended}
@@ -15,22 +13,21 @@ use Rattle.meaning.specs.Machine.{register, value_of, takes_else, IfReleases}
 use Rattle.meaning.specs.Rules.{guard_of}
 use Rattle.meaning.specs.Rewriting.{variables, levels_of, all_codes, writes_codes_in, Rewritable, rewritten}
 use Rattle.meaning.specs.Places.{Place, places_in_script, place_at, guard_at, is_test}
-use Rattle.meaning.specs.Runs.{Progress, lines, is_going, refusal, enterable, lacks_registers, entered_bank, open_refusal, opened_bank, program_row, started, judged, step, run}
+use Rattle.meaning.specs.Runs.{Progress, lines, is_going, refusal, enterable, entered_bank, open_refusal, opened_bank, program_row, started, run}
 use Rattle.meaning.specs.Sessions.{Session, filling, under_way, closed, opened, entries, enter_all, opening_bank, session_after, taken_from}
-use Rattle.meaning.specs.Confinement.{All, HasStarted, HasEnded, IsSettled, kept_lines, entering, WithholdsNothing, AlikeRuns, HonestReleases, LinesAsBought, Settles, Guarantees, Confined}
-use Rattle.meaning.proofs.NamedCode.{Interpretation, Value, Exp, Reg, own, Laid}
+use Rattle.meaning.specs.Confinement.{All, HasStarted, HasEnded, IsSettled, kept_lines, entering, WithholdsNothing, Confined}
+use Rattle.meaning.proofs.NamedCode.{Interpretation, Value, Exp, Reg, own}
 use Rattle.meaning.proofs.NamedRules.{guard_exp}
 use Rattle.meaning.proofs.NamedRules as named
 use Rattle.meaning.proofs.Registers.{same_reg}
 use Rattle.meaning.proofs.Interpretations.{machine, machine_laws}
 use Rattle.meaning.proofs.Programs.{laid, program, named_plain_rows, nesting}
-use Rattle.meaning.proofs.Numbers.{tree, tree_row, ValidE, ValidR, Match, eval_match, else_match}
+use Rattle.meaning.proofs.Numbers.{tree, ValidE, ValidR, Match, eval_match, else_match}
 use Rattle.meaning.proofs.Valid.{RewrittenRegister, rewritten_apart, OwnRegister, own_apart, rows_valid, bought_valid, guard_valid, beginning, begins, begins_bought}
 use Rattle.meaning.proofs.Releases.{Made, fine_program}
 use Rattle.meaning.proofs.Bought.{Passes, any, Exactly, ends_as_bought}
 use Rattle.meaning.proofs.Transfer.{FineNumbered, ExactlyNumbered, anywhere, fine_number, exact_name, exact_number}
 use Rattle.meaning.proofs.Bridge.{nesting_in_lem, guard_tree}
-use Rattle.meaning.proofs.BridgePlaces.{place_of}
 use Rattle.meaning.proofs.Together.{long_enough, has_registers}
 use Rattle.meaning.proofs.Alone.{calls_made, to_start}
 use Rattle.meaning.proofs.Setup.{level_values, count_levels, count_rewritten, not_enterable, enterable_same, script, codes, well, reads, rewritten_row, rewritten-rows, bought_rows, place_of_row}

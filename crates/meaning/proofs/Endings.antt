@@ -1,5 +1,5 @@
 -- Runs that end: what the calls of one run say about its rows, and the other way round.
-use Rattle.std.proofs.Common.{◌≡◌, ℕ, zero, suc, ◌+◌, ◌-◌, ◌<◌, ◌≤◌, min, Bool, true, false, cond, leb, ◌⊎◌, List, [], ◌∷◌, ◌++◌, length, take, set, ℤ, pos, Some, None, Option, sym, refl, ap, ◌∙◌, subst, ap₂, inl, inr, append_assoc, append-nil, add-zero, zero-add, arith, leb→le, length-append, length-take, take-suc-set}
+use Rattle.std.proofs.Common.{◌≡◌, ℕ, zero, suc, ◌+◌, ◌<◌, ◌≤◌, Bool, true, false, cond, leb, ◌⊎◌, List, [], ◌∷◌, ◌++◌, length, take, ℤ, Some, None, Option, sym, refl, ap, ◌∙◌, subst, ap₂, inl, inr, append_assoc, append-nil, add-zero, zero-add, arith, leb→le, length-append, length-take, take-suc-set}
 use mathlib.Core.Bool.{false≢true}
 use lib.Dec.{nleb→lt}
 use Rattle.syntax.specs.Form.{TreeRow, skips, assigns, releases, writes, stops, branches, leaves, closes, repeats, goes_back}
@@ -9,7 +9,7 @@ use Rattle.meaning.specs.declared.answers.Standing.{Standing}
 use Rattle.meaning.specs.declared.answers.Standing.TheVariants.{Ended, Stopped, SheetFull, BudgetSpent, MoreToDo}
 use Rattle.meaning.specs.declared.answers.Call.{Call}
 use Rattle.meaning.specs.Families.{Family, flows}
-use Rattle.meaning.specs.Machine.{register, next_row, registers_after, Shown, silent, printed, no_row, stopped, line_of, value_of, shows}
+use Rattle.meaning.specs.Machine.{register, Shown, silent, printed, no_row, stopped, line_of, value_of, shows}
 use Rattle.meaning.specs.Runs.{Progress, lines, is_going, settle, judge, judge_start, sheet_after, kept_after, standing_after, program_row, started, ahead, judged, step, run}
 use Rattle.meaning.specs.Sessions.{Session, filling, under_way, closed, session_after, taken_from}
 use Rattle.meaning.specs.Confinement.{All, HasStarted, HasEnded, IsSettled, kept_lines}

@@ -1,13 +1,11 @@
 -- What rows leave unchanged (Frame), what a run keeps (Good), and how the registers' updates keep it.
-use Rattle.std.proofs.Common.{◌≡◌, ℕ, zero, suc, ◌+◌, ◌-◌, ◌<◌, Bool, true, false, cond, ◌||◌, eqb, ◌⊎◌, List, [], ◌∷◌, ◌++◌, sym, refl, ap, ◌∙◌, subst, ap₂, inl, inr, arith, eqb→eq}
+use Rattle.std.proofs.Common.{◌≡◌, ℕ, zero, suc, ◌+◌, ◌-◌, ◌<◌, Bool, true, false, cond, ◌||◌, eqb, List, [], ◌∷◌, ◌++◌, sym, refl, ap, ◌∙◌, subst, ap₂, inl, inr, arith, eqb→eq}
 use mathlib.Core.Bool.{or-true, or_assoc, false≢true}
-use lib.Dec.{eqb_refl}
-use Rattle.meaning.proofs.NamedCode.{Interpretation, Value, IsMachineCode, Exp, num, var, op, Reg, own, level, mark, guard, Row, eval, next, shows}
-use Rattle.meaning.specs.Machine.{silent}
-use Rattle.meaning.proofs.Registers.{set, effect}
+use Rattle.meaning.proofs.NamedCode.{Interpretation, Value, IsMachineCode, Reg, own, level, mark, guard, eval}
+use Rattle.meaning.proofs.Registers.{set}
 use Rattle.meaning.proofs.NamedRules.{Script, nil, skip, assign, release, write, seq, if, while, assigns, rising, NamedWellFormed, guard_exp, plus, toll, pads}
 use Rattle.meaning.proofs.Equal.{eqb_no, eqb_same}
-use Rattle.meaning.proofs.Interpretations.{Laws, Flows}
+use Rattle.meaning.proofs.Interpretations.{Laws}
 use Rattle.meaning.proofs.Relations.{Mark, Good}
 
 pub or_false : (a b : Bool) → (a || b) ≡ false → (a ≡ false) × (b ≡ false)

@@ -1,6 +1,6 @@
 -- The names of a rewritten script: all are legal, and no two are the same.
 --
--- Own names differ from each other since the script is well_formed. They do not begin with `_`, and generated names do. Two generated names
+-- Own names differ from each other since the script is well-formed. They do not begin with `_`, and generated names do. Two generated names
 -- differ in their letter or in their number, and numbers that differ are written differently.
 use Rattle.std.proofs.Common.{◌≡◌, ℕ, zero, suc, ◌+◌, ◌-◌, ◌<◌, ◌≤◌, Bool, true, false, not, ◌&&◌, ltb, leb, List, [], ◌∷◌, ◌++◌, length, get_or, take, replicate, decimal, sym, refl, ap, ◌∙◌, arith, length-append}
 use lib.Dec.{leb-suc-suc}

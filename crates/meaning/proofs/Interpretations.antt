@@ -1,11 +1,10 @@
 -- What the proofs use of values, operators and levels, and that it follows from the laws of the operators and of the family.
-use Rattle.std.proofs.Common.{◌≡◌, ℕ, zero, suc, ◌<◌, max, Bool, true, false, cond, eqb, ltb, ◌⊎◌, ℤ, pos, negsuc, Some, None, Option, sym, refl, ap, ◌∙◌, subst, ap₂, inl, inr, arith, eqb→eq}
+use Rattle.std.proofs.Common.{◌≡◌, ℕ, zero, suc, max, Bool, true, false, cond, eqb, ◌⊎◌, ℤ, pos, negsuc, Some, None, Option, sym, refl, ap, ◌∙◌, inl, inr, arith, eqb→eq}
 use mathlib.Core.Bool.{false≢true}
 use Rattle.values.specs.declared.Operator.{Operator}
 use Rattle.values.specs.declared.Operator.TheVariants.{Equal, Less, Maximum}
 use Rattle.values.specs.Operators.{equal_z, operate, operator_numbered, truth}
 use Rattle.values.proofs.Keeps.{laws}
-use Rattle.levels.specs.Joins.{joined_by}
 use Rattle.meaning.specs.Families as spec
 use Rattle.meaning.specs.Families.{FamilyLaws, IsCode, joiner, operator_or}
 use Rattle.meaning.proofs.NamedCode.{Interpretation, Value, IsMachineCode}

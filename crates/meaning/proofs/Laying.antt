@@ -1,6 +1,6 @@
 -- The rows of a statement, laid out from a base, hold the statement (Placed).
-use Rattle.std.proofs.Common.{◌≡◌, ℕ, zero, suc, List, [], ◌∷◌, ◌++◌, sym, refl, ap, ◌∙◌, subst, ap₂}
-use Rattle.meaning.proofs.NamedCode.{Code, cnil, cskip, cassign, crelease, cwrite, cstop, cseq, cif, cwhile, Row, rnone, rif, relse, rend, rwhile, rback, Laid, laid-at, withholds, inside, Origin, bought, withholding, stopping, lay, after}
+use Rattle.std.proofs.Common.{◌≡◌, ℕ, suc, List, [], ◌∷◌, ◌++◌, sym, refl, ap, ◌∙◌, subst}
+use Rattle.meaning.proofs.NamedCode.{Code, cnil, cskip, cassign, crelease, cwrite, cstop, cseq, cif, cwhile, rnone, rend, Laid, laid-at, withholds, inside, lay, after}
 use Rattle.meaning.proofs.Placed.{Placed}
 use Rattle.meaning.proofs.Programs.{at}
 

@@ -1,9 +1,8 @@
 -- Levels that flow to the reader; expressions under low-equivalent registers.
-use Rattle.std.proofs.Common.{◌≡◌, ℕ, zero, suc, ◌<◌, Bool, true, false, cond, ◌⊎◌, sym, refl, ap, ◌∙◌, subst, ap₂, inl, inr}
+use Rattle.std.proofs.Common.{◌≡◌, ℕ, sym, refl, ap, ◌∙◌, ap₂, inl, inr}
 use Rattle.values.specs.declared.Operator.{Operator}
-use Rattle.meaning.proofs.NamedCode.{Interpretation, Value, IsMachineCode, Exp, num, var, op, Reg, own, level, mark, guard, eval}
-use Rattle.meaning.proofs.Registers.{set}
-use Rattle.meaning.proofs.NamedRules.{own_exp, level_exp, mark_exp, guard_exp}
+use Rattle.meaning.proofs.NamedCode.{Interpretation, Value, IsMachineCode, Exp, num, var, op, Reg, eval}
+use Rattle.meaning.proofs.NamedRules.{own_exp, level_exp, mark_exp}
 use Rattle.meaning.proofs.Interpretations.{Laws, Flows}
 use Rattle.meaning.proofs.Relations.{Agree, Mark, Good, Low}
 

@@ -3,7 +3,7 @@
 -- The promises speak of numbered registers and of lists of statements. The proofs go by registers with names (a variable, its level, its mark,
 -- a guard), so that two different registers are told apart by computation, and by sequences of two parts (cseq) or nothing (cnil).
 -- Numbers.antt ties the two machines together, row by row.
-use Rattle.std.proofs.Common.{◌≡◌, ℕ, zero, suc, Bool, true, false, cond, List, [], ◌∷◌, ◌++◌, ℤ, pos, negsuc, refl}
+use Rattle.std.proofs.Common.{◌≡◌, ℕ, suc, Bool, true, false, cond, List, [], ◌∷◌, ◌++◌, ℤ, pos, negsuc}
 use Rattle.values.specs.declared.Operator.{Operator}
 use Rattle.meaning.specs.Machine.{Shown, silent, printed, no_row, stopped, line_of}
 

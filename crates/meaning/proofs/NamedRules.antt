@@ -1,6 +1,6 @@
 -- Scripts as sequences of two parts, and how they are rewritten, over named registers. Bridge.antt shows that this is the rewriting of the rules.
-use Rattle.std.proofs.Common.{◌≡◌, ℕ, zero, suc, ◌-◌, ◌<◌, Bool, true, false, cond, ◌||◌, eqb, List, [], ◌∷◌, ◌++◌, refl}
-use Rattle.meaning.proofs.NamedCode.{Origin, bought, withholding, stopping, Interpretation, Value, IsMachineCode, Exp, num, var, op, Reg, own, level, mark, guard, Code, cnil, cskip, cassign, crelease, cwrite, cstop, cseq, cif, cwhile}
+use Rattle.std.proofs.Common.{ℕ, zero, suc, ◌-◌, ◌<◌, Bool, true, false, cond, ◌||◌, eqb, List, [], ◌∷◌, ◌++◌}
+use Rattle.meaning.proofs.NamedCode.{bought, withholding, stopping, Interpretation, Value, Exp, num, var, op, Reg, own, level, mark, guard, Code, cnil, cskip, cassign, crelease, cwrite, cstop, cseq, cif, cwhile}
 
 -- a script as bought: variables by number, a list as a sequence of two parts or nothing; release K e is `v_k := declassify(e)`
 pub data Script : Type 0 where

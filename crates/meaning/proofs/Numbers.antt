@@ -2,21 +2,21 @@
 --
 -- `tree_row` puts numbers for names: it is the row of the machine of the promises. `Match` says that a bank holds, at the number of each register in
 -- use, what the named registers hold. Then a row shows the same, goes on to the same row, and leaves registers that match again.
-use Rattle.std.proofs.Common.{◌≡◌, ℕ, zero, suc, ◌+◌, ◌<◌, ◌≤◌, Bool, true, false, cond, ◌&&◌, eqb, List, [], ◌∷◌, ◌++◌, length, set, ℤ, pos, negsuc, Some, None, Option, sym, refl, ap, ◌∙◌, subst, ap₂, arith, eqb→eq, length-set}
+use Rattle.std.proofs.Common.{◌≡◌, ℕ, zero, suc, ◌<◌, Bool, true, false, cond, ◌&&◌, eqb, List, length, set, ℤ, pos, negsuc, Some, None, Option, sym, refl, ap, ◌∙◌, subst, ap₂, eqb→eq, length-set}
 use mathlib.Core.Bool.{false≢true}
 use Rattle.std.proofs.lemmas.List.{get_or-set_same, get_or-set_other}
 use Rattle.values.specs.Operators.{equal_z, operate}
 use Rattle.syntax.specs.Trees.{Expression, number, variable, apply}
 use Rattle.syntax.specs.Form.{TreeRow, skips, assigns, releases, writes, stops, branches, leaves, closes, repeats, goes_back}
 use Rattle.meaning.specs.Families.{Family, FamilyLaws, IsCode, joiner, flows}
-use Rattle.meaning.specs.Machine.{register, value_of, is_zero, next_row, registers_after, Shown, silent, printed, line_of, shows, takes_else, IfReleases}
+use Rattle.meaning.specs.Machine.{register, value_of, next_row, registers_after, silent, printed, line_of, shows, takes_else, IfReleases}
 use Rattle.meaning.specs.Rules.{level_register, mark_register, guard_register}
 use Rattle.meaning.proofs.NamedCode as named
 use Rattle.meaning.proofs.NamedCode.{Value, IsMachineCode, Exp, num, var, op, Reg, own, level, mark, guard, Row, rskip, rassign, rrelease, rwrite, rstop, rif, relse, rend, rwhile, rback, rnone, natural, eval, takes_else_lem}
 use Rattle.meaning.proofs.Registers.{same_reg, effect}
-use Rattle.meaning.proofs.Interpretations.{machine, code_z, joiner_joins}
+use Rattle.meaning.proofs.Interpretations.{machine, joiner_joins}
 use Rattle.meaning.proofs.Relations.{Same, SameFigure}
-use Rattle.meaning.proofs.Equal.{eqb_no, eqb_same}
+use Rattle.meaning.proofs.Equal.{eqb_same}
 
 -- the number of a register, with n own variables
 abbrev pub number_told : ℕ → Reg → ℕ

@@ -1,12 +1,12 @@
 -- The relation between two runs, kept by the updates of rewritten rows.
-use Rattle.std.proofs.Common.{◌≡◌, ℕ, zero, suc, ◌+◌, ◌-◌, ◌<◌, Bool, true, false, cond, ◌||◌, eqb, ◌⊎◌, List, [], ◌∷◌, ◌++◌, sym, refl, ap, ◌∙◌, subst, ap₂, inl, inr, arith, eqb→eq}
+use Rattle.std.proofs.Common.{◌≡◌, ℕ, zero, suc, ◌<◌, Bool, true, false, cond, eqb, sym, refl, ap, ◌∙◌, subst, ap₂, inl, inr, arith, eqb→eq}
 use mathlib.Core.Bool.{false≢true}
 use Rattle.meaning.proofs.NamedCode.{Interpretation, Value, IsMachineCode, Exp, num, var, op, Reg, own, level, mark, guard, eval}
 use Rattle.meaning.proofs.Registers.{set}
-use Rattle.meaning.proofs.NamedRules.{own_exp, level_exp, mark_exp, guard_exp}
+use Rattle.meaning.proofs.NamedRules.{own_exp, mark_exp, guard_exp}
 use Rattle.meaning.proofs.Interpretations.{Laws, Flows}
-use Rattle.meaning.proofs.Relations.{Agree, Mark, Good, Low, Rel}
-use Rattle.meaning.proofs.Levels.{flows_bottom, low_guard, low_exp, level_exp_code, mark_exp_mark}
+use Rattle.meaning.proofs.Relations.{Agree, Mark, Good, Rel}
+use Rattle.meaning.proofs.Levels.{flows_bottom, low_guard, mark_exp_mark}
 use Rattle.meaning.proofs.Frames.{one≢z, Frame, good_assign, good_guard, good_raise, mark_raise}
 use Rattle.meaning.proofs.Equal.{eqb_same}
 

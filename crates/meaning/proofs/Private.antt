@@ -1,18 +1,17 @@
 -- Under a guard above the reader, a rewritten list without whiles takes exactly its toll of silent steps, ends behind itself,
 -- and changes only the variables assigned in it and deeper guards. One run alone.
-use Rattle.std.proofs.Common.{◌≡◌, ℕ, zero, suc, ◌+◌, ◌-◌, ◌<◌, Bool, true, false, cond, ◌||◌, eqb, ◌⊎◌, List, [], ◌∷◌, ◌++◌, sym, refl, ap, ◌∙◌, subst, ap₂, inl, inr, arith}
+use Rattle.std.proofs.Common.{◌≡◌, ℕ, zero, suc, ◌-◌, ◌<◌, Bool, true, false, cond, ◌||◌, eqb, List, [], ◌∷◌, sym, refl, ap, ◌∙◌, subst, arith}
 use mathlib.Core.Bool.{false≢true}
-use Rattle.meaning.proofs.NamedCode.{natural, Interpretation, Value, IsMachineCode, Exp, num, var, op, Reg, own, level, mark, guard, Code, cassign, cseq, Row, rif, eval, next, shows, after}
+use Rattle.meaning.proofs.NamedCode.{natural, Interpretation, Value, IsMachineCode, Exp, op, Reg, level, mark, guard, Code, cassign, cseq, Row, rif, eval, after}
 use Rattle.meaning.specs.Machine.{line_of, printed, silent}
 use Rattle.meaning.proofs.Placed.{Placed}
-use Rattle.meaning.proofs.Registers.{set, effect}
-use Rattle.meaning.proofs.NamedRules.{Script, nil, skip, assign, release, write, seq, if, while, named_has_while, assigns, rising, NamedWellFormed, toll, pads, own_exp, level_exp, mark_exp, guard_exp, raise, branch, rewrite, plus}
+use Rattle.meaning.proofs.Registers.{set}
+use Rattle.meaning.proofs.NamedRules.{Script, nil, skip, assign, release, write, seq, if, while, named_has_while, assigns, rising, NamedWellFormed, toll, pads, own_exp, level_exp, guard_exp, raise, branch, rewrite, plus}
 use Rattle.meaning.proofs.Interpretations.{Laws, Flows}
 use Rattle.meaning.proofs.Relations.{Mark, Good}
-use Rattle.meaning.proofs.Levels.{flows_zero, flows_left, flows_right, flows-join, level_exp_code, mark_exp_mark}
+use Rattle.meaning.proofs.Levels.{flows_zero, flows_left, flows_right, level_exp_code, mark_exp_mark}
 use Rattle.meaning.proofs.Steps.{Quiet, here, then, bind, map_quiet}
 use Rattle.meaning.proofs.Frames.{mem, rising_none, rising-all, assigned_below, or_false, pad_even, Frame, frame_refl, frame_trans, frame_assign, frame_raise, frame_guard, guard_exp_frame, frame_less, read_guard, test_yes, test_no, good_assign, good_guard, good_raise, mark_raise, mark_one}
-use Rattle.meaning.proofs.Equal.{eqb_same}
 
 module _ (F : Interpretation) (L : Laws F) (rd : Value) (crd : IsMachineCode F rd) (ρ0 σ0 : Reg → Value) (rows : ℕ → Row Reg) (N : ℕ) where
   open F use {z, one, equal, apply, join_op, max_op, eq_op, lt_op}

@@ -1,8 +1,7 @@
 -- The rows of a whole rewritten script, and of the script as bought, by named registers.
-use Rattle.std.proofs.Common.{ℕ, zero, suc, ◌<◌, max, List, [], ◌∷◌, ◌++◌, length}
-use Rattle.meaning.proofs.NamedCode.{Interpretation, Value, Exp, num, var, op, Reg, own, level, Code, cnil, cskip, cassign, crelease, cwrite, cseq, cif, cwhile, bought, Row, rnone, Laid, laid-at, lay}
+use Rattle.std.proofs.Common.{ℕ, zero, suc, max, List, [], ◌∷◌, length}
+use Rattle.meaning.proofs.NamedCode.{Interpretation, Value, num, Reg, own, level, Code, cnil, cskip, cassign, crelease, cwrite, cseq, cif, cwhile, bought, Row, rnone, Laid, laid-at, lay}
 use Rattle.meaning.proofs.NamedRules.{Script, nil, skip, assign, release, write, seq, if, while, own_exp, rewrite}
-use Rattle.meaning.specs.Confinement.{All}
 
 -- the row with number n; a row past the last is no row left
 abbrev pub at : {R : Type 0} → List (Laid R) → ℕ → Laid R

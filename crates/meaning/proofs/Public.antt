@@ -1,16 +1,16 @@
 -- Two runs of a rewritten list show a reader the same.
-use Rattle.std.proofs.Common.{◌≡◌, ℕ, zero, suc, ◌+◌, ◌-◌, ◌<◌, Bool, true, false, cond, ◌||◌, eqb, ◌⊎◌, List, [], ◌∷◌, ◌++◌, sym, refl, ap, ◌∙◌, subst, ap₂, inl, inr, arith}
+use Rattle.std.proofs.Common.{◌≡◌, ℕ, zero, suc, ◌-◌, Bool, true, false, cond, ◌||◌, List, [], ◌∷◌, sym, refl, ap, ◌∙◌, subst, ap₂, inl, inr, arith}
 use mathlib.Core.Bool.{false≢true}
-use Rattle.meaning.proofs.NamedCode.{natural, Origin, bought, withholding, stopping, Interpretation, Value, IsMachineCode, Exp, num, var, op, Reg, own, level, mark, guard, Code, cassign, cseq, cif, cwhile, Row, rassign, rif, rwhile, rstop, eval, next, shows, after}
+use Rattle.meaning.proofs.NamedCode.{natural, bought, Interpretation, Value, IsMachineCode, Exp, op, Reg, level, mark, guard, Code, cassign, cseq, cif, cwhile, Row, rassign, rif, rstop, eval, after}
 use Rattle.meaning.specs.Machine.{line_of, printed, silent}
 use Rattle.meaning.proofs.Placed.{Placed}
-use Rattle.meaning.proofs.Registers.{set, effect}
+use Rattle.meaning.proofs.Registers.{set}
 use Rattle.meaning.proofs.NamedRules.{Script, nil, skip, assign, release, write, seq, if, while, named_has_while, assigns, rising, NamedWellFormed, toll, pads, own_exp, level_exp, mark_exp, guard_exp, stop_check_lem, raise, branch, rewrite, plus}
 use Rattle.meaning.proofs.Interpretations.{Laws, Flows}
-use Rattle.meaning.proofs.Relations.{Agree, Mark, Good, Low, Rel, Same}
-use Rattle.meaning.proofs.Levels.{flows_bottom, flows_zero, flows_left, flows_right, flows-join, level_exp_code, mark_exp_mark, low_guard, low_exp, same_mark_exp}
+use Rattle.meaning.proofs.Relations.{Agree, Good, Rel}
+use Rattle.meaning.proofs.Levels.{flows_bottom, flows_zero, level_exp_code, mark_exp_mark, low_guard, low_exp, same_mark_exp}
 use Rattle.meaning.proofs.Steps.{Sim, Quiet, tick, mono, both, join}
-use Rattle.meaning.proofs.Frames.{assigned_below, or_false, read_guard, test_yes, test_no, good_guard, Frame, frame_less, frame_trans, frame_guard}
+use Rattle.meaning.proofs.Frames.{assigned_below, or_false, read_guard, test_yes, test_no, good_guard, Frame, frame_trans, frame_guard}
 use Rattle.meaning.proofs.Private.{quiet, quiet_if, quiet_write}
 use Rattle.meaning.proofs.Pairs.{own_exp_same, open_figure, low_val, guard_at_lem, related_less, related_guard, related_assign, related_raise, related_private}
 

@@ -1,5 +1,5 @@
 -- Registers as functions, of any kind with a test for equality: what the proofs run on.
-use Rattle.std.proofs.Common.{ℕ, Bool, true, false, cond, eqb}
+use Rattle.std.proofs.Common.{Bool, false, cond, eqb}
 use Rattle.meaning.proofs.NamedCode.{Interpretation, Value, Reg, own, level, mark, guard, Row, rskip, rassign, rrelease, rwrite, rstop, rif, relse, rend, rwhile, rback, rnone, eval}
 
 abbrev pub same_reg : Reg → Reg → Bool

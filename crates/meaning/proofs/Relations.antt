@@ -1,9 +1,9 @@
 -- What each run keeps, and the relation between two runs.
-use Rattle.std.proofs.Common.{◌≡◌, ℕ, zero, suc, ◌<◌, Bool, true, false, cond, ◌⊎◌, refl}
-use Rattle.meaning.proofs.NamedCode.{Interpretation, Value, IsMachineCode, Exp, Reg, own, level, mark, guard, Row, rskip, rassign, rrelease, rwrite, rstop, rif, relse, rend, rwhile, rback, rnone, Releasing, eval, next, shows}
-use Rattle.meaning.specs.Machine.{Shown, silent}
+use Rattle.std.proofs.Common.{◌≡◌, ℕ, zero, suc, ◌<◌, Bool, ◌⊎◌}
+use Rattle.meaning.proofs.NamedCode.{Interpretation, Value, IsMachineCode, Reg, own, level, mark, guard, Row, Releasing, eval, next, shows}
+use Rattle.meaning.specs.Machine.{silent}
 use Rattle.meaning.proofs.Registers.{same_reg, effect, effect_by}
-use Rattle.meaning.proofs.Interpretations.{Laws, Flows}
+use Rattle.meaning.proofs.Interpretations.{Flows}
 
 module _ (F : Interpretation) (rd : Value) where
   open F use {z, one, equal, apply, join_op}

@@ -1,16 +1,16 @@
 -- One run: every release made hands over its opening figure, at a place whose guard level is 0.
-use Rattle.std.proofs.Common.{◌≡◌, ℕ, zero, suc, ◌+◌, ◌-◌, ◌<◌, ◌≤◌, max, Bool, true, false, cond, ◌||◌, eqb, ◌⊎◌, List, [], ◌∷◌, ◌++◌, length, sym, refl, ap, ◌∙◌, subst, ap₂, inl, inr, arith, eqb→eq}
+use Rattle.std.proofs.Common.{◌≡◌, ℕ, zero, suc, ◌+◌, ◌-◌, ◌<◌, ◌≤◌, Bool, true, false, cond, ◌||◌, eqb, List, [], ◌∷◌, length, sym, refl, ap, ◌∙◌, subst, arith}
 use mathlib.Core.Bool.{false≢true}
-use Rattle.meaning.proofs.NamedCode.{Interpretation, Value, IsMachineCode, Exp, num, var, op, Reg, own, level, mark, guard, Code, cassign, cseq, cif, cwhile, bought, Row, rif, rwhile, rstop, rnone, rrelease, Laid, lay, Releasing, eval, next, after}
+use Rattle.meaning.proofs.NamedCode.{Interpretation, Value, IsMachineCode, Exp, op, Reg, own, level, mark, guard, Code, cassign, cseq, cif, cwhile, bought, Row, rif, rstop, rnone, Laid, lay, Releasing, eval, next, after}
 use Rattle.meaning.proofs.Placed.{Placed}
 use Rattle.meaning.proofs.Registers.{set, effect, effect_by}
-use Rattle.meaning.proofs.NamedRules.{Script, nil, skip, assign, release, write, seq, if, while, named_has_while, assigns, rising, NamedWellFormed, toll, pads, own_exp, level_exp, mark_exp, guard_exp, stop_check_lem, raise, branch, rewrite}
-use Rattle.meaning.proofs.Interpretations.{Laws, Flows}
+use Rattle.meaning.proofs.NamedRules.{Script, nil, skip, assign, release, write, seq, if, while, named_has_while, assigns, rising, toll, pads, own_exp, level_exp, mark_exp, guard_exp, stop_check_lem, raise, branch, rewrite}
+use Rattle.meaning.proofs.Interpretations.{Laws}
 use Rattle.meaning.specs.Confinement.{All}
-use Rattle.meaning.proofs.Programs.{at, named_first_rows, laid, program, nesting}
-use Rattle.meaning.proofs.Relations.{Good, Mark}
+use Rattle.meaning.proofs.Programs.{named_first_rows, laid, program, nesting}
+use Rattle.meaning.proofs.Relations.{Good}
 use Rattle.meaning.proofs.Levels.{level_exp_code, mark_exp_mark}
-use Rattle.meaning.proofs.Frames.{read_guard, test_yes, test_no, good_assign, good_guard, good_raise, mark_raise}
+use Rattle.meaning.proofs.Frames.{test_yes, test_no, good_assign, good_guard, good_raise, mark_raise}
 use Rattle.meaning.proofs.Pairs.{own_exp_same, open_figure}
 use Rattle.meaning.proofs.Laying.{placed, Noted, noted, has_at, at_end_lem}
 use Rattle.meaning.proofs.TwoRuns.{put, good, Opening}

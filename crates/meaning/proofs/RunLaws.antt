@@ -1,5 +1,5 @@
 -- What holds of every run: steps, settled standings, lines, values.
-use Rattle.std.proofs.Common.{◌≡◌, ℕ, zero, suc, ◌+◌, ◌-◌, ◌^◌, ◌<◌, ◌≤◌, Bool, true, false, cond, ◌||◌, ltb, List, [], ◌∷◌, ◌++◌, length, take, drop, set, ℤ, pos, negsuc, Some, None, Option, sym, refl, ap, ◌∙◌, subst, ap₂, suc-add, zero-add, arith, length-set, w32, SFits}
+use Rattle.std.proofs.Common.{◌≡◌, ℕ, zero, suc, ◌+◌, ◌<◌, ◌≤◌, Bool, true, false, cond, ◌||◌, ltb, List, [], ◌∷◌, length, take, drop, set, ℤ, Some, None, Option, sym, refl, ap, ◌∙◌, subst, ap₂, suc-add, zero-add, arith, w32, SFits}
 use mathlib.Core.Bool.{false≢true}
 use Rattle.values.proofs.Keeps as operator
 use Rattle.syntax.specs.Trees.{Expression, number, variable, apply, InRange}
@@ -13,8 +13,8 @@ use Rattle.meaning.specs.declared.answers.Standing.TheVariants.{Ended, Stopped, 
 use Rattle.meaning.specs.Families.{Family}
 use Rattle.meaning.specs.Machine.{register, value_of, row_at, registers_after, Shown, silent, printed, no_row, stopped}
 use Rattle.meaning.specs.Rewriting.{variables}
-use Rattle.meaning.specs.Runs.{Progress, is_going, settle, judge, kept_after, sheet_after, program_row, ahead, judged, step, run, taken, too_short, gone, lacks_registers}
-use Rattle.meaning.specs.RunLaws.{AllValues, RunLaws, RunLawsHold}
+use Rattle.meaning.specs.Runs.{Progress, is_going, settle, judge, kept_after, sheet_after, program_row, ahead, judged, step, run, taken, too_short, gone}
+use Rattle.meaning.specs.RunLaws.{AllValues, RunLawsHold}
 use Rattle.meaning.proofs.Together.{going_settle, going_room, Room, kept_room, length_sheet, length_registers}
 use Rattle.meaning.proofs.Endings.{judge-more}
 use Rattle.meaning.proofs.Alone.{run_keeps, all_unit}

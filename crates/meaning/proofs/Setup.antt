@@ -1,27 +1,24 @@
 -- What is known of a script that can be rewritten: its named form, and that the named rows and places are its rows and places.
-use Rattle.std.proofs.Common.{◌≡◌, ℕ, zero, suc, ◌+◌, ◌<◌, ◌≤◌, Bool, true, false, cond, not, ◌&&◌, eqb, List, [], ◌∷◌, ◌++◌, map, length, get_or, ℤ, pos, negsuc, Option, sym, refl, ap, ◌∙◌, subst, ap₂, arith, eqb→eq, length-append}
+use Rattle.std.proofs.Common.{◌≡◌, ℕ, zero, suc, ◌+◌, ◌≤◌, true, false, ◌&&◌, eqb, List, [], ◌∷◌, ◌++◌, map, length, get_or, ℤ, pos, sym, refl, ap, ◌∙◌, subst, ap₂, arith, length-append}
 use mathlib.Core.Path.{fun_ext}
-use mathlib.Core.Bool.{false≢true}
 use Rattle.syntax.specs.declared.form.Declaration.{Declaration}
 use Rattle.syntax.specs.Trees as tree
 use Rattle.syntax.specs.Trees.{Expression, number, variable, apply, Statement, Statements, none, then, InRange, LegalStatement, LegalStatements, nesting_in}
-use Rattle.syntax.specs.Form.{TreeRow}
 use Rattle.syntax.specs.Scripts.{Script, WellFormed}
-use Rattle.values.specs.Operators.{operate}
 use Rattle.meaning.specs.Families.{Family, FamilyLaws, IsCode, joiner, flows}
-use Rattle.meaning.specs.Rewriting.{variables, levels_of, is_reserved, all_codes, writes_codes, writes_codes_in, Rewritable, generated, generated_from, rewritten, first_rows}
+use Rattle.meaning.specs.Rewriting.{variables, levels_of, all_codes, writes_codes, writes_codes_in, Rewritable, generated_from, rewritten, first_rows}
 use Rattle.meaning.specs.Rules.{rewritten_in}
-use Rattle.meaning.specs.Places.{Place, places_in, plain_rows, places_in_script, place_at}
+use Rattle.meaning.specs.Places.{places_in, plain_rows, places_in_script, place_at}
 use Rattle.meaning.specs.Runs.{enterable_at, enterable, program_row}
 use Rattle.meaning.specs.Confinement.{All}
-use Rattle.meaning.proofs.NamedCode.{Interpretation, Value, IsMachineCode, Exp, Code, Reg, cseq, Laid, lay}
+use Rattle.meaning.proofs.NamedCode.{Interpretation, IsMachineCode, cseq, lay}
 use Rattle.meaning.proofs.NamedRules.{NamedWellFormed, rewrite}
 use Rattle.meaning.proofs.NamedRules as named
-use Rattle.meaning.proofs.Interpretations.{machine, code_z, joiner_joins, Flows}
-use Rattle.meaning.proofs.Programs.{at, level_at_lem, named_first_rows, laid, program, plain, named_plain_rows, nesting}
+use Rattle.meaning.proofs.Interpretations.{machine, joiner_joins, Flows}
+use Rattle.meaning.proofs.Programs.{level_at_lem, named_first_rows, laid, program, plain, named_plain_rows}
 use Rattle.meaning.proofs.Numbers.{tree_row}
 use Rattle.meaning.proofs.Valid.{Below, Reads}
-use Rattle.meaning.proofs.Bridge.{exp_of, named_of, named_in, nesting_in_lem, onto, both_true, row_at_lem, rewritten-onto, bought_onto}
+use Rattle.meaning.proofs.Bridge.{exp_of, named_of, named_in, both_true, row_at_lem, rewritten-onto, bought_onto}
 use Rattle.meaning.proofs.BridgePlaces.{place_of, place_at_lem, script_places}
 use Rattle.meaning.proofs.Equal.{eqb_same}
 
@@ -50,7 +47,7 @@ code_at G L [] h K = L.bottom
 code_at G L (x ∷ xs) h zero = (both_true G 0 (G.code x) (all_codes G xs) h).0
 code_at G L (x ∷ xs) h (suc K) = code_at G L xs (both_true G 0 (G.code x) (all_codes G xs) h).1 K
 
--- ---- legal statements are well_formed by name
+-- ---- legal statements are well-formed by name
 
 below : (k : ℕ) (e : Expression) → InRange k e → Below k (exp_of e)
 below k (number n) h = refl

@@ -1,7 +1,7 @@
 -- One step of two runs, and silent steps. Sim and Quiet wrap the recursive Same and Later in declared records: a record is a
 -- type former, so that registers, rows and counts are found as implicit arguments, which they are not under a function by cases.
-use Rattle.std.proofs.Common.{◌≡◌, ℕ, zero, suc, ◌<◌, sym, refl, ap, ◌∙◌, subst, ap₂}
-use Rattle.meaning.proofs.NamedCode.{Interpretation, Value, IsMachineCode, Reg, Row, next, shows}
+use Rattle.std.proofs.Common.{◌≡◌, ℕ, zero, suc, sym, refl, ◌∙◌, subst}
+use Rattle.meaning.proofs.NamedCode.{Interpretation, Value, Reg, Row, next, shows}
 use Rattle.meaning.specs.Machine.{silent}
 use Rattle.meaning.proofs.Registers.{effect}
 use Rattle.meaning.proofs.NamedRules.{plus}

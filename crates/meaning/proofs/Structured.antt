@@ -1,12 +1,10 @@
 -- The machine of rows does what a script's structure says.
-use Rattle.std.proofs.Common.{◌≡◌, ℕ, zero, suc, ◌+◌, ◌≤◌, Bool, true, false, cond, List, [], ◌∷◌, ◌++◌, length, ℤ, Some, None, Option, sym, refl, ap, ◌∙◌, subst, ap₂, append_assoc, append-nil, add-zero, arith}
-use Rattle.syntax.specs.Trees.{Expression, Statement, Statements, none, then, skip, assign, release, write, branch, while}
+use Rattle.std.proofs.Common.{◌≡◌, ℕ, zero, suc, ◌+◌, Bool, true, false, cond, List, [], ◌∷◌, ◌++◌, length, ℤ, Some, None, sym, refl, ap, subst, append_assoc, append-nil, add-zero, arith}
+use Rattle.syntax.specs.Trees.{Statement, Statements}
 use Rattle.syntax.specs.Form.{TreeRow, skips, assigns, releases, writes, branches, leaves, closes, repeats, goes_back, row_after_of, row_after_in, tree_rows_of, tree_rows_in, tree_rows}
-use Rattle.syntax.specs.Scripts.{Script}
 use Rattle.meaning.specs.declared.answers.Line.{Line}
-use Rattle.meaning.specs.declared.answers.Call.{Call}
-use Rattle.meaning.specs.Families.{Family, flows}
-use Rattle.meaning.specs.Machine.{register, value_of, is_zero, row_at, next_row, registers_after, Shown, silent, printed, no_row, line_of, shows}
+use Rattle.meaning.specs.Families.{Family}
+use Rattle.meaning.specs.Machine.{register, value_of, is_zero, row_at, next_row, registers_after, Shown, silent, printed, line_of, shows}
 use Rattle.meaning.specs.Structured.{Does, does_skip, does_assign, does_release, shows_line, hides_line, first_arm, second_arm, loop_over, loop_again, DoesIn, does_none, does_then, StructuredRuns}
 use Rattle.meaning.proofs.Bought.{see, Goes}
 use Rattle.meaning.proofs.Transfer.{ExactlyNumbered}

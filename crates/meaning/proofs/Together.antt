@@ -1,5 +1,5 @@
 -- Two runs under way that show the same give the same answers and keep the same lines.
-use Rattle.std.proofs.Common.{◌≡◌, ℕ, zero, suc, ◌<◌, ◌≤◌, Bool, true, false, cond, ◌||◌, ltb, leb, List, [], ◌∷◌, ◌++◌, length, take, set, ℤ, Some, None, Option, sym, refl, ap, ◌∙◌, subst, ap₂, arith, ltb→lt, length-set, take-suc-set}
+use Rattle.std.proofs.Common.{◌≡◌, ℕ, zero, suc, ◌<◌, ◌≤◌, Bool, true, false, cond, ◌||◌, ltb, leb, List, [], ◌∷◌, ◌++◌, length, take, ℤ, Some, None, Option, sym, refl, ap, ◌∙◌, subst, ap₂, arith, ltb→lt, length-set, take-suc-set}
 use mathlib.Core.Bool.{false≢true}
 use lib.Dec.{nleb→lt}
 use Rattle.syntax.specs.Form.{TreeRow, skips, assigns, releases, writes, stops, branches, leaves, closes, repeats, goes_back}

@@ -1,10 +1,10 @@
 -- One run by number and by name: the releases that it makes, and how it ends.
-use Rattle.std.proofs.Common.{◌≡◌, ℕ, zero, suc, Bool, true, false, eqb, List, [], ◌∷◌, ℤ, pos, Option, sym, refl, ap, ◌∙◌, subst, ap₂}
+use Rattle.std.proofs.Common.{◌≡◌, ℕ, zero, suc, eqb, List, [], ℤ, pos, Option, sym, ap, ◌∙◌, subst}
 use Rattle.syntax.specs.Trees.{Expression}
 use Rattle.syntax.specs.Form.{TreeRow}
 use Rattle.meaning.specs.declared.answers.Line.{Line}
 use Rattle.meaning.specs.Families.{Family, FamilyLaws, IsCode}
-use Rattle.meaning.specs.Machine.{register, next_row, registers_after, no_row, shows, takes_else, IfReleases}
+use Rattle.meaning.specs.Machine.{register, next_row, registers_after, no_row, shows, IfReleases}
 use Rattle.meaning.proofs.NamedCode.{Interpretation, Value, Exp, Reg, Row, rskip, rassign, rrelease, rwrite, rstop, rif, relse, rend, rwhile, rback, rnone, Releasing}
 use Rattle.meaning.proofs.Registers.{same_reg}
 use Rattle.meaning.proofs.Interpretations.{machine}

@@ -1,18 +1,15 @@
 -- The theorem on two runs of a whole rewritten program.
-use Rattle.std.proofs.Common.{◌≡◌, ℕ, zero, suc, ◌+◌, ◌<◌, Bool, true, false, cond, eqb, ◌⊎◌, List, [], ◌∷◌, ◌++◌, length, sym, refl, ap, ◌∙◌, subst, ap₂, inl, inr, arith}
+use Rattle.std.proofs.Common.{◌≡◌, ℕ, zero, suc, ◌+◌, ◌<◌, Bool, true, false, cond, List, [], ◌∷◌, length, sym, refl, ap, ◌∙◌, subst, inl, inr, arith}
 use mathlib.Core.Bool.{false≢true}
-use Rattle.meaning.proofs.NamedCode.{Interpretation, Value, IsMachineCode, Exp, num, Reg, own, level, mark, guard, Code, cassign, cseq, Row, rnone, lay, after, eval, next, shows}
-use Rattle.meaning.specs.Machine.{no_row, silent}
+use Rattle.meaning.proofs.NamedCode.{Interpretation, Value, IsMachineCode, Reg, own, level, mark, Code, cseq, Row, rnone, lay, after}
 use Rattle.meaning.proofs.Placed.{Placed}
-use Rattle.meaning.proofs.Registers.{set, effect}
+use Rattle.meaning.proofs.Registers.{set}
 use Rattle.meaning.proofs.NamedRules.{Script, NamedWellFormed, rewrite}
 use Rattle.meaning.proofs.Interpretations.{Laws, Flows}
-use Rattle.meaning.proofs.Relations.{Agree, Mark, Good, Low, Rel, Same}
+use Rattle.meaning.proofs.Relations.{Agree, Good, Rel, Same}
 use Rattle.meaning.specs.Confinement.{All}
 use Rattle.meaning.proofs.Programs.{at, level_at_lem, named_first_rows, program}
-use Rattle.meaning.proofs.Steps.{Sim, Quiet, tick, mono, both}
-use Rattle.meaning.proofs.Levels.{flows_bottom}
-use Rattle.meaning.proofs.Frames.{one≢z}
+use Rattle.meaning.proofs.Steps.{Sim, tick, both}
 use Rattle.meaning.proofs.Equal.{eqb_no, eqb_same}
 use Rattle.meaning.proofs.Laying.{placed, has_at, at_end_lem}
 use Rattle.meaning.proofs.Public.{main}

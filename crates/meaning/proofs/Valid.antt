@@ -1,15 +1,15 @@
 -- The rows of a rewritten script, and of a script as bought, use the registers that they have, and numbers of the language.
-use Rattle.std.proofs.Common.{◌≡◌, ℕ, zero, suc, ◌+◌, ◌-◌, ◌<◌, ◌≤◌, max, Bool, true, false, cond, ◌||◌, eqb, List, [], ◌∷◌, ◌++◌, length, ℤ, pos, negsuc, sym, refl, ap, ◌∙◌, subst, ap₂, arith, eqb→eq}
+use Rattle.std.proofs.Common.{◌≡◌, ℕ, zero, suc, ◌+◌, ◌<◌, ◌≤◌, Bool, true, false, cond, ◌||◌, eqb, List, [], ◌∷◌, ◌++◌, length, ℤ, pos, negsuc, sym, refl, ap, ◌∙◌, arith, eqb→eq}
 use mathlib.Core.Bool.{false≢true}
 use native.Mathlib.Decide.{dec_lt}
-use Rattle.meaning.specs.Families.{Family, FamilyLaws, IsCode}
+use Rattle.meaning.specs.Families.{Family}
 use Rattle.meaning.specs.Machine.{register}
 use Rattle.meaning.specs.Confinement.{All}
-use Rattle.meaning.proofs.NamedCode.{Interpretation, Value, IsMachineCode, Exp, num, var, op, Reg, own, level, mark, guard, Code, cnil, cskip, cassign, crelease, cwrite, cstop, cseq, cif, cwhile, Row, Laid, lay, inside, after, natural}
-use Rattle.meaning.proofs.NamedRules.{Script, nil, skip, assign, release, write, seq, if, while, named_has_while, assigns, rising, NamedWellFormed, toll, pads, own_exp, level_exp, mark_exp, guard_exp, stop_check_lem, raise, branch, rewrite}
+use Rattle.meaning.proofs.NamedCode.{Interpretation, Value, IsMachineCode, Exp, num, var, op, Reg, own, level, mark, guard, Code, cnil, cskip, cassign, crelease, cwrite, cstop, cseq, cif, cwhile, Laid, lay, inside, natural}
+use Rattle.meaning.proofs.NamedRules.{Script, nil, skip, assign, release, write, seq, if, while, named_has_while, assigns, rising, NamedWellFormed, pads, own_exp, level_exp, mark_exp, guard_exp, raise, branch, rewrite}
 use Rattle.meaning.proofs.Registers.{same_reg}
-use Rattle.meaning.proofs.Interpretations.{machine, code_z}
-use Rattle.meaning.proofs.Programs.{at, named_first_rows, laid, program, plain, named_plain_rows, nesting}
+use Rattle.meaning.proofs.Interpretations.{machine}
+use Rattle.meaning.proofs.Programs.{at, named_first_rows, program, plain, named_plain_rows, nesting}
 use Rattle.meaning.proofs.Numbers.{number_told, ValidE, ValidR, Match}
 use Rattle.meaning.proofs.Equal.{eqb_no, eqb_same}
 

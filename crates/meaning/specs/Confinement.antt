@@ -10,7 +10,7 @@
 --     once it is settled; and some call of `go` settles it.
 --
 -- A release is made where its own row is taken. Its opening figure is the value of its expression in the registers when `start` was accepted.
-use Rattle.std.specs.Prelude.{◌≡◌, ℕ, ◌≤◌, true, false, List, [], ◌∷◌, ◌++◌, length, ℤ, pos, None, slice_index}
+use Rattle.std.specs.Prelude.{◌≡◌, ℕ, true, false, List, [], ◌∷◌, length, ℤ, pos, None, slice_index}
 use Rattle.syntax.specs.Trees.{Expression}
 use Rattle.syntax.specs.Scripts.{Script, WellFormed}
 use Rattle.meaning.specs.declared.answers.Line.{Line}

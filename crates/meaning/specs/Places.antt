@@ -9,13 +9,13 @@
 --
 -- Example: `if h then write 0 1; else skip; end;` has, for the rows of its rewriting, the places
 --   0 (guard), 0 (if), 1 test, 1, 1, 1, 1 (the line with its test), 0 (else), 1 (skip), 1, 1 (padding), 0 (end)
-use Rattle.std.specs.Prelude.{ℕ, zero, suc, ◌-◌, Bool, true, false, cond, ◌||◌, List, [], ◌∷◌, ◌++◌, length, replicate}
+use Rattle.std.specs.Prelude.{ℕ, zero, suc, ◌-◌, Bool, true, false, ◌||◌, List, [], ◌∷◌, ◌++◌, replicate}
 use Rattle.values.specs.declared.Operator.{Operator}
-use Rattle.syntax.specs.Trees.{Expression, Statement, Statements, none, then, skip, assign, release, write, stop, branch, while, nesting_in}
+use Rattle.syntax.specs.Trees.{Expression, Statement, Statements, none, then, skip, assign, release, write, stop, branch, while}
 use Rattle.syntax.specs.Parts.{row_counts}
 use Rattle.syntax.specs.Scripts.{Script}
 use Rattle.meaning.specs.Families.{Family, joiner}
-use Rattle.meaning.specs.Rules.{guard_of, guard_register, has_while_in, raised_after, tolls, rewritten_of, rewritten_in}
+use Rattle.meaning.specs.Rules.{guard_of, guard_register, has_while_in, raised_after, tolls, rewritten_in}
 use Rattle.meaning.specs.Rewriting.{variables}
 
 pub record Place : Type 0 where

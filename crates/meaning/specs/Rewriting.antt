@@ -11,7 +11,7 @@
 use Rattle.std.specs.Prelude.{◌≡◌, ℕ, zero, suc, ◌+◌, ◌-◌, ◌≤◌, max, Bool, true, false, not, ◌&&◌, List, [], ◌∷◌, ◌++◌, map, length, replicate, decimal, ◌==◌, slice_index}
 use Rattle.syntax.specs.declared.form.Name.{Name}
 use Rattle.syntax.specs.declared.form.Declaration.{Declaration}
-use Rattle.syntax.specs.Trees.{Expression, Statement, Statements, none, then, skip, assign, release, write, stop, branch, while, join, number, depth_of, nesting_in}
+use Rattle.syntax.specs.Trees.{Statement, Statements, none, then, skip, assign, release, write, stop, branch, while, join, number, depth_of, nesting_in}
 use Rattle.syntax.specs.Scripts.{Script}
 use Rattle.meaning.specs.Families.{Family, joiner}
 use Rattle.meaning.specs.Rules.{level_register, rewritten_in}

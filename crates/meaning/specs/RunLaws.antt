@@ -6,7 +6,7 @@
 -- places. Registers of 32 bits stay of 32 bits.
 --
 -- Example: of a run that takes 10 rows, `go 4` takes 4, a second 4, and a third 2; `go 12` takes the same 10 and leaves the same run.
-use Rattle.std.specs.Prelude.{◌≡◌, ℕ, ◌+◌, ◌<◌, ◌≤◌, true, false, List, length, take, drop, ℤ, FitsSigned}
+use Rattle.std.specs.Prelude.{◌≡◌, ℕ, ◌+◌, ◌<◌, ◌≤◌, false, List, length, take, drop, ℤ, FitsSigned}
 use Rattle.std.specs.Int.{w32}
 use Rattle.syntax.specs.Scripts.{Script, WellFormed}
 use Rattle.meaning.specs.Families.{Family}

@@ -10,7 +10,7 @@
 --
 -- Example: a run of `write 0 7;` for reader 0 with a budget of 1 and a sheet of 1 place takes 1 step, keeps the line (0, 7) and has then ended: no
 -- row is left, which counts before the budget being spent. With a sheet without places, `go` takes no step, and the sheet is full.
-use Rattle.std.specs.Prelude.{◌≡◌, ℕ, zero, suc, ◌-◌, Bool, true, false, cond, not, ◌&&◌, ◌||◌, List, [], ◌∷◌, length, take, ℤ, Some, None, Option, nat_le, nat_lt, slice_index_or, slice_set}
+use Rattle.std.specs.Prelude.{ℕ, zero, suc, ◌-◌, Bool, true, false, cond, not, ◌&&◌, ◌||◌, List, [], ◌∷◌, length, take, ℤ, Some, None, Option, nat_le, nat_lt, slice_index_or, slice_set}
 use Rattle.refusals.specs.declared.Refusal.{Refusal}
 use Rattle.refusals.specs.declared.Reason.{Reason}
 use Rattle.refusals.specs.declared.Reason.TheVariants as reason
@@ -22,7 +22,7 @@ use Rattle.meaning.specs.declared.answers.Line.{Line}
 use Rattle.meaning.specs.declared.answers.Standing.{Standing}
 use Rattle.meaning.specs.declared.answers.Standing.TheVariants.{Ended, Stopped, SheetFull, BudgetSpent, MoreToDo}
 use Rattle.meaning.specs.declared.answers.Answer.{Answer}
-use Rattle.meaning.specs.declared.answers.Answer.TheVariants.{Done, Started, Went, Kept, Sums, Refused}
+use Rattle.meaning.specs.declared.answers.Answer.TheVariants.{Done, Went, Kept, Sums, Refused}
 use Rattle.meaning.specs.Families.{Family}
 use Rattle.meaning.specs.Machine.{register, row_at, next_row, registers_after, Shown, silent, printed, no_row, stopped, shows, line_of}
 use Rattle.meaning.specs.Rewriting.{variables, levels_of, all_codes, writes_codes_in, is_reserved}

@@ -5,7 +5,7 @@
 --
 -- Example: the calls `enter 0 7`, `go 5`, `start`, `finish` on a newly opened run are answered: done, left out, started, and refused with 21 if
 -- there is more to do.
-use Rattle.std.specs.Prelude.{ℕ, zero, suc, Bool, cond, List, [], ◌∷◌, ◌++◌, ℤ}
+use Rattle.std.specs.Prelude.{ℕ, cond, List, [], ◌∷◌, ◌++◌, ℤ}
 use Rattle.syntax.specs.Scripts.{Script}
 use Rattle.meaning.specs.declared.answers.Line.{Line}
 use Rattle.meaning.specs.declared.answers.Call.{Call}

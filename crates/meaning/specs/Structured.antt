@@ -16,7 +16,7 @@ use Rattle.meaning.specs.declared.answers.Standing.TheVariants.{Ended}
 use Rattle.meaning.specs.declared.answers.Call.{Call}
 use Rattle.meaning.specs.Families.{Family, flows}
 use Rattle.meaning.specs.Machine.{register, value_of, is_zero, line_of}
-use Rattle.meaning.specs.Runs.{Progress, lines, started}
+use Rattle.meaning.specs.Runs.{lines, started}
 use Rattle.meaning.specs.Sessions.{under_way, session_after}
 use Rattle.meaning.specs.Confinement.{HasStarted, IsSettled}
 

@@ -1,6 +1,6 @@
 -- A rewritten script is a script again.
 --
--- Rewriting a well_formed script that may be rewritten gives a well_formed script, within smaller limits than a script has to keep: at most 208
+-- Rewriting a well-formed script that may be rewritten gives a well-formed script, within smaller limits than a script has to keep: at most 208
 -- variables, ifs and whiles nested at most 17 deep, expressions at most 19 deep. So its form can be held, spelled and run like that of any other
 -- script. The own variables are those into which figures may be entered.
 --

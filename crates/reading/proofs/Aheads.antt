@@ -1,22 +1,19 @@
 -- What one look at the text says of the tokens ahead, and what the left-to-right rule makes of it.
-use Rattle.std.proofs.Common.{◌≡◌, ℕ, ◌+◌, ◌-◌, ◌<◌, ◌≤◌, min, Bool, true, false, cond, List, [], ◌∷◌, ◌++◌, length, drop, sym, refl, ap, ◌∙◌, subst, ap₂, arith, length-drop, drop-drop}
-use Rattle.std.specs.List.{prefix_len}
+use Rattle.std.proofs.Common.{◌≡◌, ℕ, ◌+◌, ◌≤◌, true, false, List, [], ◌∷◌, length, drop, sym, refl, ap, ◌∙◌, subst, ap₂, arith, length-drop}
 use Rattle.std.proofs.lemmas.Bool.{true≢false}
 use Rattle.refusals.specs.declared.Reason.{Reason}
 use Rattle.refusals.specs.declared.Reason.TheVariants.{Unexpected}
 use Rattle.letters.specs.declared.tokens.Token.{Token}
 use Rattle.letters.specs.declared.tokens.Token.TheVariants as case
-use Rattle.letters.specs.declared.tokens.Lexed.{Lexed}
-use Rattle.letters.specs.Classes.{is_blank, every}
 use Rattle.letters.specs.Tokens.{Lexeme, view, Next, token, is_end, next_at, Inside}
 use Rattle.letters.specs.Tokens as lex
-use Rattle.letters.specs.Texts.{Piece, Begins, Turned, Ending, finished, faulty, Ends, MadeOf, piece_of}
+use Rattle.letters.specs.Texts.{Piece, Ending, finished, faulty, MadeOf}
 use Rattle.letters.proofs.Looks.{look_rest}
 use Rattle.letters.proofs.Going.{rest_is}
 use Rattle.letters.proofs.Unique.{summary, begun_summary, ended-summary, turned_summary, no_end, same_token, token_refused, same_refusal}
-use Rattle.reading.specs.Grammar.{Terminal, terminal, terminals}
+use Rattle.reading.specs.Grammar.{terminal, terminals}
 use Rattle.reading.specs.Rule.{Expected, Verdict, onward, turned, step, at_end, judge, refused, resolve}
-use Rattle.reading.specs.Reads.{Ahead, Passed, Fails}
+use Rattle.reading.specs.Reads.{Ahead, Passed}
 
 -- what a look finds is what stands ahead
 abbrev pub Found : List ℕ → Lexeme → ℕ → ℕ → List Piece → Ending → Type 0

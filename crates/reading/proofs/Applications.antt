@@ -1,8 +1,7 @@
 -- Expressions from their parts.
-use Rattle.std.proofs.Common.{◌≡◌, ℕ, zero, suc, ◌+◌, ◌-◌, ◌^◌, ◌<◌, ◌≤◌, max, Bool, true, false, cond, List, [], ◌∷◌, ◌++◌, length, get_or, Ok, Err, Result, sym, refl, ap, ◌∙◌, subst, ap₂, arith, Bor, MatchResult}
-use Rattle.std.proofs.lemmas.Bool.{cond-true, cond-false, true≢false}
+use Rattle.std.proofs.Common.{◌≡◌, ℕ, zero, suc, ◌+◌, ◌-◌, ◌<◌, ◌≤◌, false, List, [], ◌∷◌, ◌++◌, length, get_or, Ok, Err, Result, sym, refl, ap, ◌∙◌, subst, arith, Bor, MatchResult}
+use Rattle.std.proofs.lemmas.Bool.{cond-false, true≢false}
 use Rattle.values.specs.declared.Operator.{Operator}
-use Rattle.refusals.specs.declared.Reason.{Reason}
 use Rattle.refusals.specs.declared.Reason.TheVariants.{Unexpected, Undeclared, TooDeep}
 use Rattle.refusals.specs.declared.Refusal.{Refusal}
 use Rattle.letters.specs.declared.symbols.Symbol.{Symbol}
@@ -16,14 +15,13 @@ use Rattle.lists.specs.Overlay.{overlay, Laid}
 use Rattle.syntax.specs.declared.form.Node.{Node}
 use Rattle.syntax.specs.declared.form.Node.TheVariants.{Numeral, Variable, Apply}
 use Rattle.syntax.specs.Names.{among}
-use Rattle.syntax.specs.Trees.{Expression, number, variable, apply, InRange, depth_of}
-use Rattle.syntax.specs.Parts.{expression_nodes}
+use Rattle.syntax.specs.Trees.{number, variable, apply}
 use Rattle.syntax.proofs.Emitting.{laid_apply}
-use Rattle.reading.specs.Grammar.{Terminal, name, numeral, keyword, symbol, terminal, terminals, operator_terminal, expression_tokens}
-use Rattle.reading.specs.Rule.{Expected, expression, operator, the_symbol, onward, turned, deeper, step, judge, refused, symbol_number}
-use Rattle.reading.specs.Reads.{Ahead, Passed, ExpressionRead, ApplicationRead, Fails, applied}
-use Rattle.reading.proofs.Aheads.{Bad, found, passes_token}
-use Rattle.reading.proofs.Sequences.{passed_then, fails_then, fails_first}
+use Rattle.reading.specs.Grammar.{name, numeral, symbol, terminals, operator_terminal, expression_tokens}
+use Rattle.reading.specs.Rule.{Expected, expression, operator, the_symbol, onward, step, judge}
+use Rattle.reading.specs.Reads.{Passed, ExpressionRead, ApplicationRead, Fails, applied}
+use Rattle.reading.proofs.Aheads.{Bad}
+use Rattle.reading.proofs.Sequences.{passed_then, fails_then}
 use Rattle.reading.proofs.Terminals.{symbols_differ}
 
 module _ (text : List ℕ) (names : List (List ℕ)) (room : ℕ) (ps : List Piece) (f : Ending) where

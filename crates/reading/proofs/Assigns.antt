@@ -1,8 +1,7 @@
 -- An expression or a release behind `:=`.
-use Rattle.std.proofs.Common.{◌≡◌, ℕ, ◌<◌, ◌≤◌, Bool, true, false, List, [], ◌∷◌, ◌++◌, length, get_or, sym, refl, ap, ◌∙◌, subst, ap₂, arith}
+use Rattle.std.proofs.Common.{◌≡◌, ℕ, ◌<◌, ◌≤◌, Bool, true, false, List, [], ◌∷◌, length, get_or, sym, refl, ap, ◌∙◌, ap₂, arith}
 use Rattle.std.proofs.lemmas.Bool.{cond-false}
 use Rattle.refusals.specs.declared.Refusal.{Refusal}
-use Rattle.letters.specs.declared.keywords.Keyword.{Keyword}
 use Rattle.letters.specs.declared.keywords.Keyword.TheVariants.{Declassify}
 use Rattle.letters.specs.declared.symbols.Symbol.TheVariants.{Open, Close, Assign}
 use Rattle.letters.specs.declared.tokens.Token.{Token}
@@ -18,9 +17,9 @@ use Rattle.syntax.specs.Parts.{expression_nodes}
 use Rattle.syntax.specs.Emits.{Emits}
 use Rattle.syntax.proofs.Emitting.{emits_assign, emits_release}
 use Rattle.reading.specs.declared.simple.Assigned.{Assigned}
-use Rattle.reading.specs.Grammar.{Terminal, name, keyword, symbol, terminal, terminals, expression_tokens, statement_tokens}
-use Rattle.reading.specs.Rule.{Expected, expression, assigned, the_symbol, step, judge, resolve, turned}
-use Rattle.reading.specs.Reads.{Ahead, Passed, ExpressionRead, Fails}
+use Rattle.reading.specs.Grammar.{Terminal, name, keyword, symbol, terminal, terminals, statement_tokens}
+use Rattle.reading.specs.Rule.{Expected, expression, assigned, the_symbol, step, judge, resolve}
+use Rattle.reading.specs.Reads.{Ahead, ExpressionRead, Fails}
 use Rattle.reading.specs.Assigns.{assigned_tokens, assigning, assigning_row, AssignedRead, ReleasedRead}
 use Rattle.reading.proofs.Aheads.{found, found_end}
 use Rattle.reading.proofs.Terminals.{keywords_differ}

@@ -1,6 +1,6 @@
 -- Ifs and whiles from their parts, and where a list is over.
-use Rattle.std.proofs.Common.{◌≡◌, ℕ, zero, suc, ◌+◌, ◌-◌, ◌<◌, ◌≤◌, max, Bool, true, false, cond, List, [], ◌∷◌, ◌++◌, length, sym, refl, ap, ◌∙◌, subst, ap₂, arith, Bor}
-use Rattle.std.proofs.lemmas.Bool.{cond-true, cond-false, true≢false}
+use Rattle.std.proofs.Common.{◌≡◌, ℕ, zero, suc, ◌+◌, ◌≤◌, false, List, [], ◌∷◌, ◌++◌, length, sym, refl, ap, ◌∙◌, ap₂, arith, Bor}
+use Rattle.std.proofs.lemmas.Bool.{cond-false, true≢false}
 use Rattle.refusals.specs.declared.Reason.TheVariants.{Undeclared, TooDeep}
 use Rattle.refusals.specs.declared.Refusal.{Refusal}
 use Rattle.letters.specs.declared.keywords.Keyword.{Keyword}
@@ -20,12 +20,12 @@ use Rattle.syntax.specs.Names.{among}
 use Rattle.syntax.specs.Trees as tree
 use Rattle.syntax.proofs.Emitting.{emits_branch, emits_while}
 use Rattle.reading.specs.declared.progress.Progress.{Progress}
-use Rattle.reading.specs.Grammar.{Terminal, name, keyword, symbol, terminal, terminals, expression_tokens, statements_tokens}
-use Rattle.reading.specs.Rule.{Expected, statements, expression, the_keyword, the_symbol, onward, turned, step, judge, resolve}
+use Rattle.reading.specs.Grammar.{keyword, symbol, terminal, expression_tokens, statements_tokens}
+use Rattle.reading.specs.Rule.{Expected, statements, expression, the_keyword, the_symbol, onward, step, judge, resolve}
 use Rattle.reading.specs.Reads.{Ahead, Passed, StatementRead, ListRead, Fails}
 use Rattle.reading.specs.Blocks.{ConditionRead, behind_if, behind_while}
 use Rattle.reading.proofs.Aheads.{Bad, found, found_end}
-use Rattle.reading.proofs.Sequences.{passed_then, fails_then, fails_first}
+use Rattle.reading.proofs.Sequences.{passed_then, fails_then}
 
 -- what begins a statement
 pub begins_if : (names : List (List ℕ)) (room less : ℕ) → room ≡ suc less → (K : List Expected) → step names (statements room ∷ K) (keyword word.If) ≡ onward names (behind_if less ++ (statements room ∷ K))

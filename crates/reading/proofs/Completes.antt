@@ -1,5 +1,5 @@
 -- Tokens that are not refused can be completed to a script.
-use Rattle.std.proofs.Common.{◌≡◌, ℕ, zero, suc, Bool, true, false, cond, ◌||◌, eqb, leb, ◌⊎◌, List, [], ◌∷◌, ◌++◌, length, is_some, Some, sym, refl, ap, ◌∙◌, subst, inl, inr, eq-eqb}
+use Rattle.std.proofs.Common.{◌≡◌, ℕ, zero, suc, Bool, true, false, cond, ◌||◌, eqb, leb, ◌⊎◌, List, [], ◌∷◌, ◌++◌, length, is_some, Some, sym, refl, ap, subst, inl, inr, eq-eqb}
 use Rattle.refusals.specs.declared.Reason.{Reason}
 use Rattle.letters.specs.declared.keywords.Keyword.{Keyword}
 use Rattle.letters.specs.declared.keywords.Keyword.TheVariants as word
@@ -8,10 +8,10 @@ use Rattle.letters.specs.declared.symbols.Symbol.TheVariants as mark
 use Rattle.letters.specs.Keywords.{keyword_of, keyword_bytes}
 use Rattle.letters.specs.Symbols.{symbol_bytes}
 use Rattle.letters.specs.Tokens as lex
-use Rattle.letters.specs.Texts.{Piece, Ending, finished, Spells}
+use Rattle.letters.specs.Texts.{Piece, Ending, finished}
 use Rattle.syntax.specs.Names.{among}
 use Rattle.reading.specs.Grammar.{Terminal, name, numeral, keyword, symbol, nothing, terminal}
-use Rattle.reading.specs.Rule.{Expected, declarations, new_name, statements, expression, assigned, operator, a_numeral, the_keyword, the_symbol, Verdict, onward, turned, step, deeper, at_end, judge, Judgement, accepted, refused, resolve, whole, keyword_number, symbol_number, terminal_operator}
+use Rattle.reading.specs.Rule.{Expected, declarations, new_name, statements, expression, assigned, operator, a_numeral, the_keyword, the_symbol, Verdict, onward, turned, step, deeper, judge, accepted, refused, resolve, whole, keyword_number, symbol_number, terminal_operator}
 use Rattle.reading.specs.Scripts.{AreTokens, Completable, FrontsComplete}
 
 -- what may stand behind a list of statements

@@ -1,5 +1,5 @@
 -- Declarations from their parts, and one behind the other.
-use Rattle.std.proofs.Common.{◌≡◌, ℕ, zero, suc, ◌+◌, ◌-◌, ◌<◌, ◌≤◌, Bool, true, false, cond, not, ◌&&◌, ◌||◌, eqb, ltb, leb, List, [], ◌∷◌, ◌++◌, length, get_or, take, drop, set, replicate, is_some, sym, refl, ap, ◌∙◌, subst, ap₂, ⊎_elim, append_assoc, arith, length-append, Bor, lt-ltb, eq-eqb, le-leb, leb-false}
+use Rattle.std.proofs.Common.{◌≡◌, ℕ, zero, suc, ◌+◌, ◌-◌, ◌<◌, ◌≤◌, Bool, true, false, not, ◌&&◌, ◌||◌, eqb, ltb, leb, List, [], ◌∷◌, ◌++◌, length, get_or, take, drop, set, replicate, is_some, sym, refl, ap, ◌∙◌, subst, ap₂, ⊎_elim, arith, length-append, Bor, lt-ltb, eq-eqb, le-leb, leb-false}
 use lib.Seq.{take-append_seam}
 use Rattle.std.specs.Str.{bytes_eq}
 use Rattle.std.proofs.lemmas.Slice.Eq.{bytes_eq-Decides}
@@ -18,16 +18,16 @@ use Rattle.letters.specs.Tokens as lex
 use Rattle.letters.specs.Texts.{Piece, Ending, MadeOf}
 use Rattle.letters.specs.Texts as texts
 use Rattle.letters.proofs.Marks.{digit_no_letter}
-use Rattle.lists.specs.Overlay.{overlay, Laid}
+use Rattle.lists.specs.Overlay.{overlay}
 use Rattle.lists.proofs.Laws.{laid_none, laid_one, laid_more}
 use Rattle.syntax.specs.declared.form.Name.{Name}
 use Rattle.syntax.specs.declared.form.Declaration.{Declaration}
 use Rattle.syntax.specs.Names.{among, padded, spelled, legal_name, legal_declaration, all_legal, spellings, distinct}
 use Rattle.reading.specs.Heard.{heard}
 use Rattle.reading.specs.Grammar.{Terminal, name, numeral, keyword, symbol, terminal, terminals, declaration_tokens, declarations_tokens}
-use Rattle.reading.specs.Rule.{Expected, declarations, new_name, onward, turned, step, judge, resolve, refused, keyword_number}
-use Rattle.reading.specs.Reads.{Ahead, Passed, Fails}
-use Rattle.reading.specs.Declares.{NewNameRead, DeclarationRead, DeclarationsRead, DeclarationsOver, DeclarationsFail, DeclarationFails, levelled, behind_var}
+use Rattle.reading.specs.Rule.{Expected, declarations, new_name, step, judge, resolve}
+use Rattle.reading.specs.Reads.{Ahead, Passed}
+use Rattle.reading.specs.Declares.{NewNameRead, DeclarationRead, DeclarationsRead, DeclarationsFail, DeclarationFails, levelled, behind_var}
 use Rattle.reading.proofs.Aheads.{Bad, found, found_end}
 use Rattle.reading.proofs.Terminals.{keywords_differ}
 

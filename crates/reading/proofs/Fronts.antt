@@ -1,12 +1,11 @@
 -- What the tokens read so far decide, and where a refusal points.
-use Rattle.std.proofs.Common.{◌≡◌, ℕ, ◌+◌, ◌≤◌, ◌⊎◌, List, [], ◌∷◌, ◌++◌, length, sym, refl, ap, ◌∙◌, subst, inl, inr, arith, length-append}
+use Rattle.std.proofs.Common.{◌≡◌, ℕ, ◌+◌, ◌≤◌, ◌⊎◌, List, [], ◌∷◌, ◌++◌, length, refl, ap, inl, inr, arith, length-append}
 use Rattle.refusals.specs.declared.Reason.{Reason}
-use Rattle.refusals.specs.declared.Refusal.{Refusal}
 use Rattle.letters.specs.Texts.{Piece, Ending, finished, faulty, MadeOf}
 use Rattle.letters.proofs.Going.{made}
 use Rattle.reading.specs.Grammar.{terminal}
 use Rattle.reading.specs.Rule.{Expected, declarations, new_name, statements, expression, assigned, operator, a_numeral, the_keyword, the_symbol, Verdict, onward, turned, step, at_end, judge, Judgement, accepted, refused, resolve, whole}
-use Rattle.reading.specs.Scripts.{Judged, Decided, FrontsDecide, PlacesWithin}
+use Rattle.reading.specs.Scripts.{Decided, FrontsDecide, PlacesWithin}
 
 module _ (long : ℕ) (p : Piece) (front : List Piece) where
   by_verdict : (v : Verdict) → ((names : List (List ℕ)) (K : List Expected) → Decided long front names K) →

@@ -1,19 +1,18 @@
 -- Statements of a list, one behind the other.
-use Rattle.std.proofs.Common.{◌≡◌, ℕ, zero, suc, ◌+◌, ◌<◌, ◌≤◌, max, Bool, true, false, cond, List, [], ◌∷◌, ◌++◌, length, get_or, IfOk, Some, None, Ok, Err, Option, Result, sym, refl, ap, ◌∙◌, subst, ap₂, arith, MatchResult}
+use Rattle.std.proofs.Common.{◌≡◌, ℕ, ◌<◌, ◌≤◌, List, [], ◌∷◌, ◌++◌, length, IfOk, Ok, Err, Option, Result, sym, refl, ap, ◌∙◌, subst, arith, MatchResult}
 use Rattle.refusals.specs.declared.Refusal.{Refusal}
 use Rattle.letters.specs.declared.symbols.Symbol.TheVariants.{Semicolon}
-use Rattle.letters.specs.Tokens.{Lexeme, token, next_at, is_end}
+use Rattle.letters.specs.Tokens.{Lexeme}
 use Rattle.letters.specs.Texts.{Piece, Ending}
 use Rattle.syntax.specs.declared.form.Node.{Node}
 use Rattle.syntax.specs.declared.form.Row.{Row}
-use Rattle.syntax.specs.Trees.{Statement, Statements, none, then, single, join, LegalStatement, LegalStatements, nesting_of, nesting_in}
+use Rattle.syntax.specs.Trees.{Statements, none, then, single, join, LegalStatements, nesting_in}
 use Rattle.syntax.specs.Emits.{Emits}
 use Rattle.syntax.proofs.Emitting.{emits_none, emits_join}
 use Rattle.reading.specs.declared.progress.Progress.{Progress}
 use Rattle.reading.specs.Grammar.{Terminal, symbol, terminal, terminals, statement_tokens, statements_tokens}
-use Rattle.reading.specs.Rule.{Expected, statements, onward, step, judge, resolve, refused}
-use Rattle.reading.specs.Reads.{Ahead, Passed, StatementRead, ListRead, ListGoing, OneRead, OneOnward, Onward, Fails, wrapped}
-use Rattle.reading.proofs.Aheads.{found}
+use Rattle.reading.specs.Rule.{Expected, statements, onward, step, judge, resolve}
+use Rattle.reading.specs.Reads.{Ahead, StatementRead, ListRead, ListGoing, OneRead, OneOnward, Onward, Fails, wrapped}
 
 tokens-join : (names : List (List ℕ)) (A B : Statements) (rest : List Terminal) → statements_tokens names (join A B) rest ≡ statements_tokens names A (statements_tokens names B rest)
 tokens-join names none B rest = refl

@@ -1,10 +1,10 @@
 -- One part of a script behind another.
-use Rattle.std.proofs.Common.{◌≡◌, ℕ, List, [], ◌∷◌, ◌++◌, length, sym, refl, ap, ◌∙◌, append_assoc}
+use Rattle.std.proofs.Common.{ℕ, List, ◌++◌, length, ap, ◌∙◌, append_assoc}
 use Rattle.refusals.specs.declared.Refusal.{Refusal}
 use Rattle.letters.specs.Texts.{Piece, Ending}
-use Rattle.reading.specs.Grammar.{Terminal, terminals}
+use Rattle.reading.specs.Grammar.{Terminal}
 use Rattle.reading.specs.Rule.{Expected, judge}
-use Rattle.reading.specs.Reads.{Ahead, Passed, Fails}
+use Rattle.reading.specs.Reads.{Passed, Fails}
 
 module _ (text : List ℕ) (names : List (List ℕ)) (X Y : List Expected) (ps : List Piece) (f : Ending) where
   pub passed_then : (t u : List Terminal → List Terminal) (at to : ℕ) (p : Passed text names X t ps f at) → Passed text names Y u p.rest f to → Passed text names (X ++ Y) (λ rest. t (u rest)) ps f to

@@ -1,5 +1,5 @@
 -- Tokens that are, or are not, what is expected.
-use Rattle.std.proofs.Common.{◌≡◌, ℕ, ◌<◌, ◌≤◌, min, Bool, true, false, cond, ◌&&◌, eqb, leb, List, [], ◌∷◌, length, drop, is_some, Some, None, Option, sym, refl, ap, ◌∙◌, subst, ap₂, ⊎_elim, arith, Bor, eq-eqb, leb-true}
+use Rattle.std.proofs.Common.{◌≡◌, ℕ, ◌<◌, ◌≤◌, Bool, true, false, cond, ◌&&◌, eqb, leb, List, [], ◌∷◌, length, drop, is_some, Some, None, sym, refl, ap, ◌∙◌, subst, ap₂, ⊎_elim, arith, Bor, eq-eqb, leb-true}
 use Rattle.std.proofs.lemmas.Bool.{cond-true, cond-false, cases_Bool, eqb-true, true≢false, and_parts}
 use Rattle.values.specs.declared.Operator.{Operator}
 use Rattle.values.specs.declared.Operator.TheVariants as op
@@ -17,8 +17,8 @@ use Rattle.letters.specs.Tokens as lex
 use Rattle.letters.specs.Texts.{Piece, Ending, MadeOf}
 use Rattle.letters.specs.Numerals.{numeral_of, well_formed_digits, value_from}
 use Rattle.reading.specs.Grammar.{Terminal, name, numeral, keyword, symbol, nothing, terminal, operator_terminal}
-use Rattle.reading.specs.Rule.{Expected, the_keyword, the_symbol, a_numeral, operator, Verdict, onward, turned, step, at_end, judge, refused, keyword_number, symbol_number, symbol_operator, terminal_operator}
-use Rattle.reading.specs.Reads.{Ahead, Passed, Fails}
+use Rattle.reading.specs.Rule.{Expected, the_keyword, the_symbol, a_numeral, operator, onward, step, judge, refused, keyword_number, symbol_number, symbol_operator, terminal_operator}
+use Rattle.reading.specs.Reads.{Ahead, Fails}
 use Rattle.reading.proofs.Aheads.{Bad}
 
 -- a symbol and a keyword by their numbers

@@ -1,5 +1,5 @@
 -- A script from its declarations and its statements, and what `read` leaves in the lists.
-use Rattle.std.proofs.Common.{◌≡◌, ℕ, ◌+◌, ◌-◌, ◌<◌, ◌≤◌, true, false, ◌&&◌, leb, List, [], ◌∷◌, ◌++◌, length, take, drop, replicate, sym, refl, ap, ◌∙◌, subst, ap₂, arith, le-leb}
+use Rattle.std.proofs.Common.{◌≡◌, ℕ, ◌-◌, ◌≤◌, true, List, [], ◌∷◌, ◌++◌, length, take, replicate, sym, refl, ap, ◌∙◌, subst, ap₂, arith, le-leb}
 use Rattle.refusals.specs.declared.Reason.{Reason}
 use Rattle.refusals.specs.declared.Reason.TheVariants.{Unexpected, NoRoom}
 use Rattle.refusals.specs.declared.Refusal.{Refusal}
@@ -8,27 +8,24 @@ use Rattle.letters.specs.declared.tokens.Token.TheVariants as case
 use Rattle.letters.specs.Tokens.{Lexeme, view, token, next_at, is_end}
 use Rattle.letters.specs.Tokens as lex
 use Rattle.letters.specs.Texts.{Piece, Ending, finished, MadeOf}
-use Rattle.lists.specs.Overlay.{Laid}
 use Rattle.lists.proofs.Laws.{blank-behind}
 use Rattle.syntax.specs.declared.form.Declaration.{Declaration}
 use Rattle.syntax.specs.declared.form.Node.{Node}
 use Rattle.syntax.specs.declared.form.Node.TheVariants.{Numeral}
 use Rattle.syntax.specs.declared.form.Row.{Row}
 use Rattle.syntax.specs.declared.form.Row.TheVariants.{Skip}
-use Rattle.syntax.specs.Names.{well_declared, all_legal, distinct, spellings, blank_declaration}
-use Rattle.syntax.specs.Trees.{LegalStatements, nesting_in}
-use Rattle.syntax.specs.Scripts.{Script, WellFormed}
-use Rattle.syntax.specs.Form.{form_rows, form_nodes}
+use Rattle.syntax.specs.Names.{well_declared, blank_declaration}
+use Rattle.syntax.specs.Trees.{LegalStatements}
 use Rattle.syntax.proofs.Emitting.{rows_laid_form, nodes_laid_form}
 use Rattle.reading.specs.declared.progress.Progress.{Progress}
 use Rattle.reading.specs.declared.scripts.Used.{Used}
-use Rattle.reading.specs.Grammar.{Terminal, terminal, terminals, declarations_tokens, statements_tokens, script_tokens, TextOf}
-use Rattle.reading.specs.Rule.{Expected, statements, whole, turned, judge, accepted, refused, resolve}
+use Rattle.reading.specs.Grammar.{terminals, declarations_tokens, statements_tokens}
+use Rattle.reading.specs.Rule.{statements, whole, judge, accepted, refused}
 use Rattle.reading.specs.Reads.{Ahead, ListRead}
 use Rattle.reading.specs.Declares.{DeclarationsRead, DeclarationsOver}
-use Rattle.reading.specs.Scripts.{ScriptRead, Judged, Accepted, Cramped, RefusedTexts}
+use Rattle.reading.specs.Scripts.{ScriptRead, Accepted, Cramped, RefusedTexts}
 use Rattle.reading.proofs.Accepts.{accepts, spellings-length}
-use Rattle.reading.proofs.Aheads.{found, found_end}
+use Rattle.reading.proofs.Aheads.{found}
 
 module _ (text : List ℕ) (names : List (List ℕ)) (ps : List Piece) (f : Ending) {ds ds' : List Declaration} {at count : ℕ} (D : DeclarationsRead text names ps f ds ds' at count) (over : DeclarationsOver text names at f) where
   pub whole-judged : {rows rows' : List Row} {nodes nodes' : List Node} {from to : Progress} (L : ListRead text names 20 D.rest f rows nodes from rows' nodes' to) → judge (length text) ps f [] whole ≡ judge (length text) L.passed.rest f names []

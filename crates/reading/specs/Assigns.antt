@@ -1,5 +1,5 @@
 -- What stands behind `:=`, and that it is read: an expression, or the release of one.
-use Rattle.std.specs.Prelude.{◌≡◌, ℕ, Bool, true, false, cond, List, [], ◌∷◌, length}
+use Rattle.std.specs.Prelude.{◌≡◌, ℕ, Bool, true, false, List, [], ◌∷◌, length}
 use Rattle.letters.specs.declared.keywords.Keyword.TheVariants.{Declassify}
 use Rattle.letters.specs.declared.symbols.Symbol.TheVariants.{Open, Close}
 use Rattle.letters.specs.Texts.{Piece, Ending}

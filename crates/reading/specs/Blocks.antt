@@ -8,7 +8,7 @@ use Rattle.lists.specs.Overlay.{Laid}
 use Rattle.syntax.specs.declared.form.Node.{Node}
 use Rattle.syntax.specs.Trees.{Expression, LegalExpression}
 use Rattle.syntax.specs.Parts.{expression_nodes}
-use Rattle.reading.specs.Grammar.{Terminal, keyword, expression_tokens}
+use Rattle.reading.specs.Grammar.{keyword, expression_tokens}
 use Rattle.reading.specs.Rule.{Expected, statements, expression, the_keyword, the_symbol}
 use Rattle.reading.specs.Reads.{Passed}
 

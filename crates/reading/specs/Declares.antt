@@ -1,12 +1,12 @@
 -- That declarations are read.
-use Rattle.std.specs.Prelude.{◌≡◌, ℕ, ◌<◌, ◌≤◌, true, false, List, [], ◌∷◌, ◌++◌, length}
+use Rattle.std.specs.Prelude.{◌≡◌, ℕ, true, false, List, [], ◌∷◌, ◌++◌, length}
 use Rattle.refusals.specs.declared.Refusal.{Refusal}
 use Rattle.letters.specs.declared.symbols.Symbol.TheVariants as mark
 use Rattle.letters.specs.Texts.{Piece, Ending, Name}
 use Rattle.lists.specs.Overlay.{Laid}
 use Rattle.syntax.specs.declared.form.Declaration.{Declaration}
 use Rattle.syntax.specs.Names.{among, all_legal, legal_declaration, spelled, spellings, distinct}
-use Rattle.reading.specs.Grammar.{Terminal, name, numeral, symbol, terminals, declarations_tokens}
+use Rattle.reading.specs.Grammar.{name, numeral, symbol, terminals, declarations_tokens}
 use Rattle.reading.specs.Rule.{Expected, declarations, new_name, a_numeral, the_symbol, judge, refused}
 use Rattle.reading.specs.Reads.{Ahead}
 

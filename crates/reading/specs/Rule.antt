@@ -7,7 +7,7 @@
 -- is refused with 3 at its end.
 --
 -- Example: in `if p then skip; end;` the list of the first arm is over at `end`, and behind it `else` is expected, so `end` is refused with 3.
-use Rattle.std.specs.Prelude.{◌≡◌, ℕ, zero, suc, Bool, true, false, cond, ◌||◌, List, [], ◌∷◌, ◌++◌, length, is_some, Some, None, Option, ◌==◌, nat_le}
+use Rattle.std.specs.Prelude.{ℕ, zero, suc, cond, ◌||◌, List, [], ◌∷◌, ◌++◌, length, is_some, Some, None, Option, ◌==◌, nat_le}
 use Rattle.refusals.specs.declared.Reason.{Reason}
 use Rattle.refusals.specs.declared.Reason.TheVariants.{Unexpected, Undeclared, BadDeclaration, TooDeep}
 use Rattle.values.specs.declared.Operator.{Operator}

@@ -5,7 +5,7 @@ ghost use Rattle.letters.specs.declared.symbols.Symbol.TheVariants as mark;
 ghost use Rattle.letters.specs.Texts.{Piece, Ending};
 ghost use Rattle.reading.specs.Grammar.{keyword, symbol};
 ghost use Rattle.reading.specs.Heard.{heard};
-ghost use Rattle.reading.specs.Rule.{statements, expression as anExpression, the_keyword, the_symbol};
+ghost use Rattle.reading.specs.Rule.{statements, expression as an_expression, the_keyword, the_symbol};
 ghost use Rattle.reading.specs.Reads.{Ahead, Passed, ExpressionRead, StatementRead, ListRead, OneRead, OneOnward, Onward, Fails, wrapped};
 ghost use Rattle.reading.specs.Blocks.{ConditionRead, behind_if, behind_while};
 
@@ -33,7 +33,7 @@ fn condition(
     requires few { length names.now ≤ 256 }
     requires behind { used ≤ at }
     ensures within { IfOk result (λ x. (at < x.0) × (x.0 ≤ length text.now) × (x.1 ≤ x.0)) }
-    ensures read { (ps : List Piece) (f : Ending) → Ahead text.now at ps f → MatchResult result (λ x. ConditionRead text.now (heard names.now) behind ps f nodes.old used nodes.new x.0 x.1) (λ e. Fails text.now (heard names.now) (anExpression 20 ∷ the_keyword behind ∷ []) ps f e) }
+    ensures read { (ps : List Piece) (f : Ending) → Ahead text.now at ps f → MatchResult result (λ x. ConditionRead text.now (heard names.now) behind ps f nodes.old used nodes.new x.0 x.1) (λ e. Fails text.now (heard names.now) (an_expression 20 ∷ the_keyword behind ∷ []) ps f e) }
 {
     let (middle, after) = match expression(text, at, names, nodes, used, DEPTH) {
         Ok(read) => read,

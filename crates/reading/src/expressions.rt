@@ -2,7 +2,7 @@
 ghost use Rattle.std.specs.Prelude.{◌≡◌, ℕ, ◌+◌, ◌<◌, ◌≤◌, List, [], ◌∷◌, length, IfOk, MatchResult};
 ghost use Rattle.letters.specs.Texts.{Piece, Ending};
 ghost use Rattle.reading.specs.Heard.{heard};
-ghost use Rattle.reading.specs.Rule.{expression as anExpression};
+ghost use Rattle.reading.specs.Rule.{expression as an_expression};
 ghost use Rattle.reading.specs.Reads.{Ahead, ExpressionRead, ApplicationRead, Fails, applied};
 
 use super::names::find;
@@ -27,7 +27,7 @@ pub fn expression(
     requires few { length names.now ≤ 256 }
     requires behind { used ≤ at }
     ensures within { IfOk result (λ x. (at < x.0) × (x.0 ≤ length text.now) × (x.1 ≤ x.0)) }
-    ensures read { (ps : List Piece) (f : Ending) → Ahead text.now at ps f → MatchResult result (λ x. ExpressionRead text.now (heard names.now) room (anExpression room ∷ []) ps f nodes.old used nodes.new x.0 x.1) (λ e. Fails text.now (heard names.now) (anExpression room ∷ []) ps f e) }
+    ensures read { (ps : List Piece) (f : Ending) → Ahead text.now at ps f → MatchResult result (λ x. ExpressionRead text.now (heard names.now) room (an_expression room ∷ []) ps f nodes.old used nodes.new x.0 x.1) (λ e. Fails text.now (heard names.now) (an_expression room ∷ []) ps f e) }
 {
     let lexed = match next_token(text, at) {
         Ok(lexed) => lexed,

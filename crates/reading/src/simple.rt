@@ -5,7 +5,7 @@ ghost use Rattle.letters.specs.declared.symbols.Symbol.TheVariants as mark;
 ghost use Rattle.letters.specs.Texts.{Piece, Ending};
 ghost use Rattle.reading.specs.Grammar.{keyword, name};
 ghost use Rattle.reading.specs.Heard.{heard};
-ghost use Rattle.reading.specs.Rule.{expression as anExpression, assigned as anAssigned, a_numeral, the_symbol};
+ghost use Rattle.reading.specs.Rule.{expression as an_expression, assigned as an_assigned, a_numeral, the_symbol};
 ghost use Rattle.reading.specs.Reads.{Ahead, StatementRead, Onward, Fails};
 ghost use Rattle.reading.specs.Assigns.{AssignedRead, ReleasedRead, assigning_row};
 
@@ -85,7 +85,7 @@ pub fn write(
     requires few { length names.now ≤ 256 }
     requires behind { (from.rows ≤ from.at) × (from.nodes ≤ from.at) }
     ensures onward { IfOk result (λ to. Onward text.now from.at to) }
-    ensures read { (room : ℕ) (ps : List Piece) (f : Ending) → Ahead text.now from.at ps f → MatchResult result (λ to. StatementRead text.now (heard names.now) room (a_numeral ∷ anExpression 20 ∷ the_symbol mark.Semicolon ∷ []) (keyword word.Write) ps f rows.old nodes.old from rows.new nodes.new to) (λ e. Fails text.now (heard names.now) (a_numeral ∷ anExpression 20 ∷ the_symbol mark.Semicolon ∷ []) ps f e) }
+    ensures read { (room : ℕ) (ps : List Piece) (f : Ending) → Ahead text.now from.at ps f → MatchResult result (λ to. StatementRead text.now (heard names.now) room (a_numeral ∷ an_expression 20 ∷ the_symbol mark.Semicolon ∷ []) (keyword word.Write) ps f rows.old nodes.old from rows.new nodes.new to) (λ e. Fails text.now (heard names.now) (a_numeral ∷ an_expression 20 ∷ the_symbol mark.Semicolon ∷ []) ps f e) }
 {
     let (level, middle) = match take_numeral(text, from.at) {
         Ok(taken) => taken,
@@ -127,7 +127,7 @@ fn take_assigned(
     requires few { length names.now ≤ 256 }
     requires behind { used ≤ at }
     ensures within { IfOk result (λ x. (at < x.at) × (x.at ≤ length text.now) × (x.nodes ≤ x.at)) }
-    ensures read { (ps : List Piece) (f : Ending) → Ahead text.now at ps f → MatchResult result (λ x. AssignedRead text.now (heard names.now) ps f nodes.old used nodes.new x) (λ e. Fails text.now (heard names.now) (anAssigned ∷ []) ps f e) }
+    ensures read { (ps : List Piece) (f : Ending) → Ahead text.now at ps f → MatchResult result (λ x. AssignedRead text.now (heard names.now) ps f nodes.old used nodes.new x) (λ e. Fails text.now (heard names.now) (an_assigned ∷ []) ps f e) }
 {
     let lexed = match next_token(text, at) {
         Ok(lexed) => lexed,
@@ -159,7 +159,7 @@ fn take_released(
     requires few { length names.now ≤ 256 }
     requires behind { used ≤ at }
     ensures within { IfOk result (λ x. (at < x.at) × (x.at ≤ length text.now) × (x.nodes ≤ x.at)) }
-    ensures read { (ps : List Piece) (f : Ending) → Ahead text.now at ps f → MatchResult result (λ x. ReleasedRead text.now (heard names.now) ps f nodes.old used nodes.new x) (λ e. Fails text.now (heard names.now) (the_symbol mark.Open ∷ anExpression 20 ∷ the_symbol mark.Close ∷ []) ps f e) }
+    ensures read { (ps : List Piece) (f : Ending) → Ahead text.now at ps f → MatchResult result (λ x. ReleasedRead text.now (heard names.now) ps f nodes.old used nodes.new x) (λ e. Fails text.now (heard names.now) (the_symbol mark.Open ∷ an_expression 20 ∷ the_symbol mark.Close ∷ []) ps f e) }
 {
     let first = match take_symbol(text, at, Symbol::Open) {
         Ok(first) => first,
@@ -194,7 +194,7 @@ pub fn assign(
     requires declared { variable < length names.now }
     requires behind { (from.rows ≤ from.at) × (from.nodes ≤ from.at) }
     ensures onward { IfOk result (λ to. Onward text.now from.at to) }
-    ensures read { (room : ℕ) (ps : List Piece) (f : Ending) → Ahead text.now from.at ps f → MatchResult result (λ to. StatementRead text.now (heard names.now) room (the_symbol mark.Assign ∷ anAssigned ∷ the_symbol mark.Semicolon ∷ []) (name (slice_index_or (heard names.now) variable [])) ps f rows.old nodes.old from rows.new nodes.new to) (λ e. Fails text.now (heard names.now) (the_symbol mark.Assign ∷ anAssigned ∷ the_symbol mark.Semicolon ∷ []) ps f e) }
+    ensures read { (room : ℕ) (ps : List Piece) (f : Ending) → Ahead text.now from.at ps f → MatchResult result (λ to. StatementRead text.now (heard names.now) room (the_symbol mark.Assign ∷ an_assigned ∷ the_symbol mark.Semicolon ∷ []) (name (slice_index_or (heard names.now) variable [])) ps f rows.old nodes.old from rows.new nodes.new to) (λ e. Fails text.now (heard names.now) (the_symbol mark.Assign ∷ an_assigned ∷ the_symbol mark.Semicolon ∷ []) ps f e) }
 {
     let middle = match take_symbol(text, from.at, Symbol::Assign) {
         Ok(middle) => middle,

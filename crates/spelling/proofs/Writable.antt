@@ -1,4 +1,4 @@
--- The tokens of a well_formed script can be written.
+-- The tokens of a well-formed script can be written.
 use Rattle.std.proofs.Common.{◌≡◌, ℕ, zero, suc, ◌<◌, ◌≤◌, true, cond, not, List, [], ◌∷◌, length, get_or, take, is_some, Some, None, Option, refl, ap, arith, eqb-true, leb-true}
 use Rattle.std.proofs.lemmas.Bool.{and_parts, and_from}
 use Rattle.std.proofs.lemmas.Bool.Decides.{nat_tests}

@@ -68,6 +68,6 @@ layout (t ∷ ts) = terminal_bytes t ++ (separator t ∷ layout ts)
 abbrev pub spelling : Script → List ℕ
 spelling s = layout (script_tokens s)
 
--- a well_formed script, if its spelling is not too long for a text, is what the spelling is the text of
+-- a well-formed script, if its spelling is not too long for a text, is what the spelling is the text of
 abbrev pub ReadsBack : Type 0
 ReadsBack = (s : Script) → WellFormed s → length (spelling s) ≤ 1048576 → TextOf (spelling s) s

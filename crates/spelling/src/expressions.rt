@@ -1,6 +1,6 @@
 // Expressions of a held program, written into a buffer.
 ghost use Rattle.std.specs.Prelude.{◌<◌, [], length, slice_index_or};
-ghost use Rattle.reading.specs.Grammar.{name as aName};
+ghost use Rattle.reading.specs.Grammar.{name as a_name};
 ghost use Rattle.spelling.specs.Buffers.{Appended};
 ghost use Rattle.spelling.specs.Parts.{token_bytes, expression_bytes, names_held, ExpressionAt, Writes, EndsAt};
 
@@ -11,7 +11,7 @@ use syntax::{Node, Program};
 // Writes the name of a variable.
 pub fn put_variable(text: &mut [u8], used: usize, program: &Program, variable: u8) -> usize
     requires { variable < length program.now.declarations.now }
-    ensures { Appended text.old used (token_bytes (aName (slice_index_or (names_held program.now) variable []))) text.new result }
+    ensures { Appended text.old used (token_bytes (a_name (slice_index_or (names_held program.now) variable []))) text.new result }
 {
     put_name(text, used, &program.declarations[variable as usize].name)
 }

@@ -47,7 +47,7 @@ pub fn spell(program: &Program, text: &mut [u8]) -> Result<usize, Refusal>
     }
 }
 
-// The spelling of a well_formed script is a text of that script, if it is not too long for a text.
+// The spelling of a well-formed script is a text of that script, if it is not too long for a text.
 pub fn spelling_reads_back()
     ensures { ReadsBack }
 {}

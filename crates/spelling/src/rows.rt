@@ -1,6 +1,6 @@
 // Rows and declarations of a held program, written into a buffer.
 ghost use Rattle.std.specs.Prelude.{◌<◌, [], ◌++◌, length, slice_index_or};
-ghost use Rattle.reading.specs.Grammar.{keyword as aKeyword, symbol as aSymbol};
+ghost use Rattle.reading.specs.Grammar.{keyword as a_keyword, symbol as a_symbol};
 ghost use Rattle.syntax.specs.Form.{skips, assigns, releases, writes, stops};
 ghost use Rattle.syntax.specs.Held.{tree_rows_held, Held};
 ghost use Rattle.spelling.specs.Buffers.{Appended};
@@ -75,7 +75,7 @@ fn put_condition(
     last: Keyword,
 ) -> usize
     requires { ExpressionAt program.now condition }
-    ensures { Writes program.now condition (λ e. token_bytes (aKeyword first) ++ (expression_bytes (names_held program.now) e ++ token_bytes (aKeyword last))) text.old used text.new result }
+    ensures { Writes program.now condition (λ e. token_bytes (a_keyword first) ++ (expression_bytes (names_held program.now) e ++ token_bytes (a_keyword last))) text.old used text.new result }
 {
     let begun = put_keyword(text, used, first);
     let valued = put_expression(text, begun, program, condition);
@@ -84,7 +84,7 @@ fn put_condition(
 
 // Writes a keyword that is a statement, or the end of one.
 fn put_alone(text: &mut [u8], used: usize, keyword: Keyword) -> usize
-    ensures { Appended text.old used (token_bytes (aKeyword keyword) ++ token_bytes (aSymbol Symbol.Semicolon)) text.new result }
+    ensures { Appended text.old used (token_bytes (a_keyword keyword) ++ token_bytes (a_symbol Symbol.Semicolon)) text.new result }
 {
     let begun = put_keyword(text, used, keyword);
     put_symbol(text, begun, Symbol::Semicolon)

@@ -1,6 +1,6 @@
 // Tokens written into a buffer, each with its separator. What does not fit is dropped, and counting goes on.
 ghost use Rattle.std.specs.Prelude.{◌≡◌, [], ◌∷◌, ◌++◌, decimal};
-ghost use Rattle.reading.specs.Grammar.{name as aName, numeral as a_numeral, keyword as aKeyword, symbol as aSymbol, operator_terminal};
+ghost use Rattle.reading.specs.Grammar.{name as a_name, numeral as a_numeral, keyword as a_keyword, symbol as a_symbol, operator_terminal};
 ghost use Rattle.syntax.specs.Names.{spelled};
 ghost use Rattle.spelling.specs.Spelling.{keyword_separator, symbol_separator};
 ghost use Rattle.spelling.specs.Buffers.{Appended};
@@ -56,7 +56,7 @@ fn symbol_separator(symbol: Symbol) -> u8
 
 // Writes a keyword.
 pub fn put_keyword(text: &mut [u8], used: usize, keyword: Keyword) -> usize
-    ensures { Appended text.old used (token_bytes (aKeyword keyword)) text.new result }
+    ensures { Appended text.old used (token_bytes (a_keyword keyword)) text.new result }
 {
     put_word(
         text,
@@ -68,7 +68,7 @@ pub fn put_keyword(text: &mut [u8], used: usize, keyword: Keyword) -> usize
 
 // Writes a symbol.
 pub fn put_symbol(text: &mut [u8], used: usize, symbol: Symbol) -> usize
-    ensures { Appended text.old used (token_bytes (aSymbol symbol)) text.new result }
+    ensures { Appended text.old used (token_bytes (a_symbol symbol)) text.new result }
 {
     put_word(
         text,
@@ -96,7 +96,7 @@ pub fn put_operator(text: &mut [u8], used: usize, operator: Operator) -> usize
 
 // Writes a name.
 pub fn put_name(text: &mut [u8], used: usize, name: &Name) -> usize
-    ensures { Appended text.old used (token_bytes (aName (spelled name.now))) text.new result }
+    ensures { Appended text.old used (token_bytes (a_name (spelled name.now))) text.new result }
 {
     if name.length < 15 {
         put_word(text, used, &name.bytes[0..name.length as usize], SPACE)

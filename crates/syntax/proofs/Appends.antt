@@ -4,8 +4,7 @@
 use Rattle.std.proofs.Common.{◌≡◌, ℕ, suc, ◌+◌, List, [], ◌∷◌, ◌++◌, length, sym, refl, ap, ◌∙◌, append_assoc, append-nil, add-zero, add_assoc, arith, length-append}
 use Rattle.syntax.specs.declared.form.Node.{Node}
 use Rattle.syntax.specs.declared.form.Node.TheVariants.{Apply}
-use Rattle.syntax.specs.declared.form.Row.{Row}
-use Rattle.syntax.specs.declared.form.Row.TheVariants.{Skip, Assign, Release, Write, Stop, If, Else, EndIf, While, EndWhile}
+use Rattle.syntax.specs.declared.form.Row.TheVariants.{Skip, Stop, Else, EndIf, EndWhile}
 use Rattle.syntax.specs.Trees.{Expression, number, variable, apply, size, Statement, Statements, none, then, skip, assign, release, write, stop, branch, while}
 use Rattle.syntax.specs.Form.{TreeRow, leaves, closes, goes_back, row_after_of, row_after_in, tree_rows_of, tree_rows_in, nodes_onto, node_after_of, node_after_in, rows_from, nodes_from, form_rows, form_nodes}
 use Rattle.syntax.specs.Parts.{row_count, row_counts, node_count, node_counts, expression_nodes, nodes_of, nodes_in, rows_of, rows_in}

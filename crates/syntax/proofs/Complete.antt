@@ -2,15 +2,14 @@
 --
 -- By induction on the statements: what is decoded from the rows behind a statement, with what is open there, gives what is decoded from its
 -- own rows on. `From` keeps that the nodes from a place on are those that the rows from there on need.
-use Rattle.std.proofs.Common.{◌≡◌, ℕ, zero, suc, ◌+◌, ◌-◌, ◌<◌, ◌≤◌, max, Bool, true, false, cond, ◌&&◌, eqb, ltb, leb, List, [], ◌∷◌, length, drop, Some, None, Option, sym, refl, ap, ◌∙◌, arith, length-drop}
-use Rattle.std.proofs.lemmas.Bool.{cond-true, cond-false, lt-ltb, le-leb, eq-eqb, and_from}
+use Rattle.std.proofs.Common.{◌≡◌, ℕ, suc, ◌+◌, ◌≤◌, true, eqb, List, [], ◌∷◌, length, drop, Some, sym, refl, ap, ◌∙◌, arith, length-drop}
+use Rattle.std.proofs.lemmas.Bool.{cond-true, lt-ltb, le-leb, eq-eqb, and_from}
 use Rattle.std.proofs.lemmas.List.{drop-drop}
 use Rattle.syntax.specs.declared.form.Node.{Node}
 use Rattle.syntax.specs.declared.form.Row.{Row}
-use Rattle.syntax.specs.declared.form.Row.TheVariants.{Skip, Assign, Release, Write, Stop, If, Else, EndIf, While, EndWhile}
 use Rattle.syntax.specs.Trees.{Expression, number, variable, apply, size, Statement, Statements, none, then, skip, assign, release, write, stop, branch, while, nesting_of, nesting_in, LegalExpression, LegalStatement, LegalStatements}
-use Rattle.syntax.specs.Form.{TreeRow, skips, assigns, releases, writes, stops, branches, leaves, closes, repeats, goes_back, row_after_of, row_after_in, tree_rows_of, tree_rows_in, nodes_onto, row_nodes_onto, node_after_row, node_after_of, node_after_in, as_row, rows_from, nodes_from, tree_rows, form_rows, form_nodes}
-use Rattle.syntax.specs.Decoder.{Parsed, parsed, bind, when, expression_of, Frame, in_else, in_then, in_body, stack, State, state, value_at, first_node, row_expression, prepend, decode_row, decode_rows, finish, statements_of}
+use Rattle.syntax.specs.Form.{TreeRow, skips, assigns, releases, writes, stops, branches, leaves, closes, repeats, goes_back, row_after_of, row_after_in, tree_rows_of, tree_rows_in, nodes_onto, node_after_row, node_after_of, node_after_in, as_row, rows_from, nodes_from, form_rows, form_nodes}
+use Rattle.syntax.specs.Decoder.{bind, when, expression_of, Frame, in_else, in_then, in_body, stack, state, value_at, first_node, row_expression, prepend, decode_row, decode_rows, finish, statements_of}
 use Rattle.syntax.proofs.Prefix.{reads_nodes}
 
 pub same : (n : ℕ) → eqb n n ≡ true

@@ -4,7 +4,7 @@
 -- the other by `emits_join`, and makes an `if` or a `while` of lists by `emits_branch` and `emits_while`. The row of an `if` or a `while` is
 -- written last, into a place left free for it (`laid_slot` of the crate `lists`), since only then its target is known.
 -- `rows_end` and `nodes_end` give the places used as sums of counts, so that a bound on the counts bounds them.
-use Rattle.std.proofs.Common.{◌≡◌, ℕ, zero, suc, ◌+◌, List, [], ◌∷◌, ◌++◌, length, sym, refl, ap, ◌∙◌, ap₂, append_assoc, append-nil, add-zero, add_assoc, arith}
+use Rattle.std.proofs.Common.{◌≡◌, ℕ, ◌+◌, List, [], ◌∷◌, ◌++◌, sym, refl, ap, ◌∙◌, ap₂, append_assoc, append-nil, add-zero, add_assoc, arith}
 use Rattle.lists.specs.Overlay.{overlay, Laid}
 use Rattle.lists.proofs.Laws.{laid_none, laid_more, laid_slot, laid_as}
 use Rattle.values.specs.declared.Operator.{Operator}
@@ -12,7 +12,7 @@ use Rattle.syntax.specs.declared.form.Node.{Node}
 use Rattle.syntax.specs.declared.form.Node.TheVariants.{Apply}
 use Rattle.syntax.specs.declared.form.Row.{Row}
 use Rattle.syntax.specs.declared.form.Row.TheVariants.{Skip, Assign, Release, Write, Stop, If, Else, EndIf, While, EndWhile}
-use Rattle.syntax.specs.Trees.{Expression, apply, size, Statement, Statements, none, then, skip, assign, release, write, stop, branch, while, single, join}
+use Rattle.syntax.specs.Trees.{Expression, apply, size, Statements, none, then, skip, assign, release, write, stop, branch, while, single, join}
 use Rattle.syntax.specs.Form.{form_rows, form_nodes}
 use Rattle.syntax.specs.Parts.{row_count, row_counts, node_count, node_counts, expression_nodes, nodes_of, nodes_in, rows_of, rows_in}
 use Rattle.syntax.specs.Emits.{Emits}

@@ -1,12 +1,11 @@
 -- One form a script, and one script a form (`forms`), from both directions: Complete.antt and Sound.antt.
-use Rattle.std.proofs.Common.{◌≡◌, ℕ, Bool, true, false, cond, List, length, is_some, Some, None, Option, sym, refl, ap, ◌∙◌}
+use Rattle.std.proofs.Common.{◌≡◌, true, false, List, length, is_some, Some, None, Option, sym, refl, ap, ◌∙◌}
 use Rattle.std.proofs.lemmas.Bool.{cond-true, cond-false, false≢true}
 use Rattle.syntax.specs.declared.form.Node.{Node}
 use Rattle.syntax.specs.declared.form.Row.{Row}
 use Rattle.syntax.specs.declared.form.Declaration.{Declaration}
 use Rattle.syntax.specs.Names.{well_declared}
 use Rattle.syntax.specs.Trees.{Statements}
-use Rattle.syntax.specs.Form.{form_rows, form_nodes}
 use Rattle.syntax.specs.Decoder.{bind, statements_of}
 use Rattle.syntax.specs.Scripts.{Script, WellFormed}
 use Rattle.syntax.specs.Forms.{IsForm, script_of, Forms}

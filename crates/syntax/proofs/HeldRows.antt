@@ -1,13 +1,13 @@
 -- What a held program's lists are: its rows one by one, and its statements by their parts.
 --
 -- `held_program` gathers it, and `row_held` is for code that has read row r as x.
-use Rattle.std.proofs.Common.{◌≡◌, ℕ, zero, suc, ◌+◌, ◌<◌, ◌≤◌, true, false, List, [], ◌∷◌, length, get_or, drop, is_some, Some, None, Option, sym, refl, ap, ◌∙◌, subst, arith}
+use Rattle.std.proofs.Common.{◌≡◌, ℕ, zero, suc, ◌+◌, ◌<◌, ◌≤◌, true, List, [], ◌∷◌, length, get_or, drop, is_some, Some, None, Option, sym, refl, ap, ◌∙◌, subst, arith}
 use Rattle.std.proofs.lemmas.Bool.{false≢true}
 use Rattle.syntax.specs.declared.form.Node.{Node}
 use Rattle.syntax.specs.declared.form.Row.{Row}
-use Rattle.syntax.specs.declared.form.Row.TheVariants.{Skip, Assign, Release, Write, Stop, If, Else, EndIf, While, EndWhile}
+use Rattle.syntax.specs.declared.form.Row.TheVariants.{Skip}
 use Rattle.syntax.specs.declared.held.Program.{Program}
-use Rattle.syntax.specs.Trees.{Expression, number, size, Statement, Statements, none, then, skip, assign, release, write, stop, branch, while, LegalExpression, LegalStatement, LegalStatements}
+use Rattle.syntax.specs.Trees.{Expression, number, Statement, Statements, none, then, skip, assign, release, write, stop, branch, while, LegalStatement, LegalStatements}
 use Rattle.syntax.specs.Scripts.{Script, WellFormed}
 use Rattle.syntax.specs.Form.{TreeRow, skips, assigns, releases, writes, stops, branches, leaves, closes, repeats, goes_back, row_after_of, row_after_in, tree_rows_of, tree_rows_in, row_nodes_onto, node_after_row, as_row, rows_from, nodes_from}
 use Rattle.syntax.specs.Decoder.{first_node}

@@ -1,8 +1,8 @@
 -- A row taken in front, in the code and in the decoder.
 --
 -- `Prepended` is shown for each kind of row, and `Sofar` is the invariant of the loop over the rows.
-use Rattle.std.proofs.Common.{◌≡◌, ℕ, zero, suc, ◌+◌, ◌-◌, ◌<◌, ◌≤◌, Bool, true, false, cond, ◌&&◌, eqb, ltb, ◌≢◌, ◌⊎◌, List, [], ◌∷◌, length, get_or, drop, set, is_some, Some, None, Option, sym, refl, ap, ◌∙◌, inl, inr, add-zero, add-one, arith, get_or-set_other, get_or-set_same, MatchOption}
-use Rattle.std.proofs.lemmas.Bool.{cond-true, cond-false, lt-ltb, false≢true, ne_eqb, and_left}
+use Rattle.std.proofs.Common.{◌≡◌, ℕ, zero, suc, ◌+◌, ◌-◌, ◌<◌, ◌≤◌, Bool, true, false, cond, ◌&&◌, eqb, ltb, ◌≢◌, ◌⊎◌, List, [], ◌∷◌, length, get_or, drop, set, is_some, Some, None, Option, sym, refl, ap, ◌∙◌, inl, inr, add-zero, add-one, arith, get_or-set_other, get_or-set_same}
+use Rattle.std.proofs.lemmas.Bool.{cond-true, lt-ltb, false≢true, ne_eqb, and_left}
 use Rattle.std.proofs.lemmas.List.{drop_more, drop_all}
 use Rattle.syntax.specs.declared.form.Node.{Node}
 use Rattle.syntax.specs.declared.form.Row.{Row}
@@ -10,7 +10,7 @@ use Rattle.syntax.specs.declared.form.Row.TheVariants.{Skip, Assign, Release, Wr
 use Rattle.syntax.specs.declared.rows.Open.{Open}
 use Rattle.syntax.specs.declared.rows.Open.TheVariants.{Otherwise, Then, Body}
 use Rattle.syntax.specs.Trees.{Expression, Statement, Statements, none, then, skip, assign, release, write, stop, branch, while}
-use Rattle.syntax.specs.Decoder.{bind, Frame, in_else, in_then, in_body, stack, State, state, row_expression, first_node, prepend, decode_row, decode_rows, closed, finish, statements_of}
+use Rattle.syntax.specs.Decoder.{bind, Frame, in_else, in_then, in_body, stack, state, row_expression, first_node, prepend, decode_row, decode_rows, closed, finish, statements_of}
 use Rattle.syntax.specs.OpenBlocks.{shape, Stacked, is_then, is_else, is_body, Prepended}
 
 stacked_set : (arr : List Open) (gs : List Frame) (i : ℕ) (v : Open) → length gs ≤ i → Stacked arr gs → Stacked (set arr i v) gs

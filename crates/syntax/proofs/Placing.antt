@@ -2,12 +2,12 @@
 --
 -- `placed_form`: statements stand in their own form. `stands-onto` and `onto-stands` go between an expression that stands by its parts
 -- and one whose nodes are those from a place on.
-use Rattle.std.proofs.Common.{◌≡◌, ℕ, zero, suc, ◌+◌, ◌<◌, ◌≤◌, List, [], ◌∷◌, ◌++◌, length, get_or, drop, sym, refl, ap, ◌∙◌, subst, arith}
+use Rattle.std.proofs.Common.{◌≡◌, ℕ, zero, suc, ◌+◌, ◌<◌, List, [], ◌∷◌, ◌++◌, length, get_or, drop, sym, refl, ap, ◌∙◌, subst, arith}
 use Rattle.std.proofs.lemmas.List.{drop-drop, drop_more}
 use Rattle.syntax.specs.declared.form.Node.{Node}
 use Rattle.syntax.specs.declared.form.Node.TheVariants.{Numeral, Variable, Apply}
 use Rattle.syntax.specs.declared.form.Row.{Row}
-use Rattle.syntax.specs.declared.form.Row.TheVariants.{Skip, Assign, Release, Write, Stop, If, Else, EndIf, While, EndWhile}
+use Rattle.syntax.specs.declared.form.Row.TheVariants.{Skip, Else, EndIf, EndWhile}
 use Rattle.syntax.specs.Trees.{Expression, number, variable, apply, size, Statement, Statements, none, then, skip, assign, release, write, stop, branch, while}
 use Rattle.syntax.specs.Form.{nodes_onto, form_rows, form_nodes}
 use Rattle.syntax.specs.Parts.{row_count, row_counts, node_count, node_counts, expression_nodes, nodes_of, nodes_in, rows_of, rows_in, Stands, Placed, PlacedIn}

@@ -2,14 +2,14 @@
 --
 -- `Of o P` says P of what an option holds, if it holds something; with `bind_of`, `when_of` and `cond_of` a fact is carried through the decoder
 -- without a case for each refusal.
-use Rattle.std.proofs.Common.{◌≡◌, ℕ, zero, suc, ◌+◌, ◌-◌, ◌<◌, ◌≤◌, max, Bool, true, false, cond, ltb, leb, List, [], ◌∷◌, length, get_or, drop, Some, None, Option, sym, refl, ap, ◌∙◌, sub-one, arith, MatchOption}
+use Rattle.std.proofs.Common.{◌≡◌, ℕ, zero, suc, ◌+◌, ◌-◌, ◌<◌, ◌≤◌, Bool, true, false, cond, ltb, leb, List, [], ◌∷◌, length, get_or, drop, Some, None, Option, refl, ap, ◌∙◌, sub-one, arith, MatchOption}
 use Rattle.std.proofs.lemmas.Bool.{cond-true, cond-false, lt-ltb, le-leb, le-ltb, lt-leb}
 use Rattle.std.proofs.lemmas.Bool.Decides.{nat_tests}
 use Rattle.std.proofs.lemmas.List.{drop_more, drop_all}
 use Rattle.values.specs.declared.Operator.{Operator}
 use Rattle.syntax.specs.declared.form.Node.{Node}
 use Rattle.syntax.specs.declared.form.Node.TheVariants.{Numeral, Variable, Apply}
-use Rattle.syntax.specs.Trees.{Expression, number, variable, apply, size, depth_of, InRange}
+use Rattle.syntax.specs.Trees.{Expression, number, variable, apply, depth_of, InRange}
 use Rattle.syntax.specs.Form.{nodes_onto}
 use Rattle.syntax.specs.Decoder.{Parsed, parsed, bind, when, expression_of, Spans}
 

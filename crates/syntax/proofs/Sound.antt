@@ -2,16 +2,16 @@
 --
 -- `Holds` is what is kept from the last row to the first: the rows and nodes so far are those of the statements decoded, in front of those
 -- that the open ifs and whiles are known to have.
-use Rattle.std.proofs.Common.{◌≡◌, ℕ, zero, suc, ◌+◌, ◌-◌, ◌<◌, ◌≤◌, max, Bool, true, false, cond, ◌&&◌, eqb, ltb, leb, List, [], ◌∷◌, length, drop, Some, None, Option, sym, refl, ap, ◌∙◌, subst, arith, length-drop}
+use Rattle.std.proofs.Common.{◌≡◌, ℕ, suc, ◌+◌, ◌<◌, ◌≤◌, ◌&&◌, eqb, ltb, leb, List, [], ◌∷◌, length, drop, sym, refl, ap, ◌∙◌, subst, arith}
 use Rattle.std.proofs.lemmas.Bool.{ltb-true, leb-true, eqb-true, and_parts}
 use Rattle.std.proofs.lemmas.List.{drop-drop, drop_all}
 use Rattle.syntax.specs.declared.form.Node.{Node}
 use Rattle.syntax.specs.declared.form.Row.{Row}
 use Rattle.syntax.specs.declared.form.Row.TheVariants.{Skip, Assign, Release, Write, Stop, If, Else, EndIf, While, EndWhile}
-use Rattle.syntax.specs.Trees.{Expression, number, variable, apply, size, Statement, Statements, none, then, skip, assign, release, write, stop, branch, while, nesting_of, nesting_in, LegalExpression, LegalStatement, LegalStatements}
-use Rattle.syntax.specs.Form.{TreeRow, skips, assigns, releases, writes, stops, branches, leaves, closes, repeats, goes_back, row_after_of, row_after_in, tree_rows_of, tree_rows_in, nodes_onto, row_nodes_onto, node_after_row, node_after_of, node_after_in, as_row, rows_from, nodes_from, tree_rows, form_rows, form_nodes}
-use Rattle.syntax.specs.Decoder.{Parsed, parsed, bind, when, expression_of, Frame, in_else, in_then, in_body, Stack, stack, State, state, value_at, first_node, row_expression, before_then, before_else, before_body, prepend, decode_row, decode_rows, closed, finish, statements_of}
-use Rattle.syntax.proofs.Prefix.{of_map, Of, of_at, when_of, cond_of, bind_of, Reads, read_is}
+use Rattle.syntax.specs.Trees.{Expression, size, Statement, Statements, none, then, skip, assign, release, write, stop, branch, while, nesting_of, nesting_in, LegalExpression, LegalStatement, LegalStatements}
+use Rattle.syntax.specs.Form.{TreeRow, skips, assigns, releases, writes, stops, branches, leaves, closes, repeats, goes_back, row_after_in, tree_rows_in, nodes_onto, node_after_row, as_row, rows_from, nodes_from, tree_rows, form_rows, form_nodes}
+use Rattle.syntax.specs.Decoder.{Parsed, when, expression_of, Frame, in_else, in_then, in_body, stack, State, state, value_at, row_expression, before_then, before_else, before_body, decode_row, decode_rows, closed, finish, statements_of}
+use Rattle.syntax.proofs.Prefix.{of_map, Of, when_of, cond_of, bind_of, Reads, read_is}
 use Rattle.syntax.proofs.Complete.{drop_nodes}
 
 -- rows and nodes are the form of a sound list of statements

@@ -1,8 +1,8 @@
 -- One form a script, and one script a form.
 --
 -- `IsForm` says that three lists are the form of a script, and `script_of` finds the script of three lists. `Forms` ties them together: the
--- lists of a well_formed script are decoded as that script, and lists that are decoded are the form of the script found, which is
--- well_formed. So no two scripts share a form, and no script has two.
+-- lists of a well-formed script are decoded as that script, and lists that are decoded are the form of the script found, which is
+-- well-formed. So no two scripts share a form, and no script has two.
 --
 -- Example: no declarations, the rows `Stop 4` and `Skip`, and no nodes are the form of the script `stop 4; skip;` and of no other. With one node
 -- they are the form of no script, since no row uses it.

@@ -1,7 +1,7 @@
 -- What a held program means, and what its readers may rely on.
 --
 -- A held program is three lists that are known to be the form of a script; `script_held` is that script, and `tree_rows_held` its rows with
--- their expressions as trees. `Held` gathers what follows: the script is well_formed, the lists are its form, its statements stand in the
+-- their expressions as trees. `Held` gathers what follows: the script is well-formed, the lists are its form, its statements stand in the
 -- lists by their parts, and each single row can be read: `RowHeld` says which row it is, where the nodes of its expression begin, and that
 -- its variable, its level and its target are in range.
 --

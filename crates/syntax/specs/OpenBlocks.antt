@@ -4,7 +4,7 @@
 --
 -- Example: inside the body of a `while` in row 0 whose end is row 2, and nothing around it, the decoder has the one frame
 -- `in_body 0 2 none`, and the code has 1 open, with `Body 0 2` at place 0 of its array.
-use Rattle.std.specs.Prelude.{◌≡◌, ℕ, zero, suc, Bool, true, false, cond, ◌&&◌, List, [], ◌∷◌, length, Some, None, Option, ◌==◌, slice_index_or}
+use Rattle.std.specs.Prelude.{◌≡◌, ℕ, Bool, false, ◌&&◌, List, [], ◌∷◌, length, Some, ◌==◌, slice_index_or}
 use Rattle.syntax.specs.declared.form.Row.{Row}
 use Rattle.syntax.specs.declared.rows.Open.{Open}
 use Rattle.syntax.specs.declared.rows.Open.TheVariants.{Otherwise, Then, Body}

@@ -1,7 +1,7 @@
 -- A script, and what every script keeps.
 --
 -- Example: `var x : 3; write 3 x;` is the script with one declaration, `x` of level 3, and the list of the one statement
--- `write 3 (variable 0)`. It would not be well_formed with `write 3 (variable 1)`, which is not declared.
+-- `write 3 (variable 0)`. It would not be well-formed with `write 3 (variable 1)`, which is not declared.
 use Rattle.std.specs.Prelude.{◌≡◌, ◌≤◌, true, List, length}
 use Rattle.syntax.specs.declared.form.Declaration.{Declaration}
 use Rattle.syntax.specs.Names.{well_declared}

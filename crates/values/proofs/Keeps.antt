@@ -1,11 +1,10 @@
 -- The operators keep their laws.
-use Rattle.std.proofs.Common.{◌≡◌, ℕ, zero, suc, ◌+◌, ◌-◌, ◌*◌, ◌/◌, ◌%◌, ◌^◌, ◌<◌, ◌≤◌, max, Bool, true, false, cond, T, eqb, ◌⊎◌, ℤ, pos, negsuc, ◌+ℤ◌, ◌-ℤ◌, ◌*ℤ◌, neg_ℤ, nat_abs, ◌≤ℤ◌, ◌<ℤ◌, Some, None, Option, sym, refl, ap, ◌∙◌, subst, ap₂, inl, inr, ⊎_elim, mod-lt, mul-le-mul_left, div-add-mod', zero-mul, div-le_self, arith, lit<, w32, Fits, SFits, to_z, of_z, eq-eqb}
+use Rattle.std.proofs.Common.{◌≡◌, ℕ, zero, suc, ◌+◌, ◌-◌, ◌*◌, ◌/◌, ◌%◌, ◌^◌, ◌<◌, ◌≤◌, max, Bool, true, false, cond, T, eqb, ◌⊎◌, ℤ, pos, negsuc, ◌+ℤ◌, ◌-ℤ◌, ◌*ℤ◌, neg_ℤ, nat_abs, ◌≤ℤ◌, ◌<ℤ◌, Some, Option, sym, refl, ap, ◌∙◌, subst, inl, inr, ⊎_elim, mod-lt, mul-le-mul_left, div-add-mod', zero-mul, div-le_self, arith, lit<, w32, SFits, to_z, of_z}
 use native.Mathlib.Nat.{div-zero}
-use borrow.Author.Tests.{lt-true, le-false}
+use borrow.Author.Tests.{lt-true}
 use lib.Bits.{bit_or, or_lt, or_comm, or_self}
 use lib.Signed.{mag, lt_z, quot_z, rem_z, lt_z_yes, clash_ℤ}
 use mir.Facts.{Fits-of_z, sfits_to_z, sfits_lit}
-use mir.Val.{bits}
 use Rattle.std.proofs.lemmas.Int.{ints, clamps, to_z-of_z, of_z-to_z, to_z_pos, SFits-int_wrap}
 use Rattle.std.proofs.lemmas.Bool.{eqb-true, cond-true, cond-false, cases_Bool}
 use Rattle.std.proofs.lemmas.Bool.Decides.{nat_tests}

@@ -1,5 +1,5 @@
 -- What the operators mean, in the words of the language and without the text of their definitions. A value is an integer from
--- -2147483648 to 2147483647, which is what `SFits w32` says.
+-- -2147483648 to 2147483647, which is what `FitsSigned w32` says.
 --
 -- Example: by `sum` and `value`, 2147483647 + 1 is the one value that differs from 2147483648 by a multiple of 4294967296, so it is
 -- -2147483648. By `quotient_exact`, -7 over 2 is the q with -7 = q * 2 + r where r is nearer to 0 than 2 and not above 0, so it is -3.

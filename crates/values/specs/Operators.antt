@@ -18,7 +18,7 @@ equal_z (pos a) (negsuc b) = false
 equal_z (negsuc a) (pos b) = false
 equal_z (negsuc a) (negsuc b) = a == b
 
--- the quotient: `quot_z` drops the fraction and gives 0 at a zero divisor; the least number over -1 wraps to itself
+-- the quotient: `int_div` drops the fraction and gives 0 at a zero divisor; the least number over -1 wraps to itself
 abbrev pub quotient : ℤ → ℤ → ℤ
 quotient a b = to_z w32 (of_z w32 (int_div a b))
 

@@ -1,7 +1,6 @@
 -- Filling, one place a turn.
-use Rattle.std.proofs.Common.{◌≡◌, ◌+◌, ◌-◌, ◌<◌, ◌≤◌, length, set, replicate, sym, refl, ap, ◌∙◌, arith}
-use Rattle.lists.specs.Overlay.{overlay}
-use Rattle.lists.proofs.Laws.{overlay_none, fill_none, fill_more, fill-all}
+use Rattle.std.proofs.Common.{set, ap, ◌∙◌, arith}
+use Rattle.lists.proofs.Laws.{fill_none, fill_more, fill-all}
 use Rattle.lists.proofs.blank.Goals as goal
 
 pub each-init : goal.each-init

@@ -1,5 +1,5 @@
 use Rattle.std.proofs.Common.{sym, ◌∙◌, arith}
-use Rattle.letters.proofs.Digits.{go, go_low, go_high, go_big, go_ok, go_end, starts}
+use Rattle.letters.proofs.Digits.{go_low, go_high, go_big, go_ok, go_end, starts}
 use Rattle.letters.proofs.numerals.numeral_value.Goals as goal
 use Rattle.letters.proofs.numerals.numeral_value.Goals.{else-digits-gt1-via-then-digits-gt1+else-digits-eq48, else-digits-gt1-via-else-digits-gt1}
 use Rattle.letters.proofs.numerals.numeral_value.Goals.{then-d-lt48-via-then-d-lt48, then-d-lt48-via-else-d-lt48+then-d-gt57}

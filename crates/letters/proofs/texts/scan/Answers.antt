@@ -1,5 +1,5 @@
-use Rattle.std.proofs.Common.{◌≡◌, true, false, cond, [], ◌∷◌, ◌++◌, is_ok, vec_items, sym, refl, ap, ◌∙◌, subst, inr, arith, rules}
-use Rattle.letters.specs.Texts.{pieces, piece_of}
+use Rattle.std.proofs.Common.{◌≡◌, true, cond, [], ◌∷◌, ◌++◌, is_ok, vec_items, sym, ap, ◌∙◌, subst, inr, arith, rules}
+use Rattle.letters.specs.Texts.{pieces}
 use Rattle.letters.proofs.Going.{Goes, goes_none, goes_more, goes_end, goes_fault, pieces_push, no_end}
 use Rattle.letters.proofs.texts.scan.Goals as goal
 

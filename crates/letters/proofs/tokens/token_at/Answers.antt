@@ -1,6 +1,6 @@
 use Rattle.std.proofs.Common.{◌≡◌, ◌+◌, ◌-◌, ◌<◌, length, get_or, take, drop, sym, ap, ◌∙◌, add-zero, arith, length-drop}
 use Rattle.std.specs.List.{prefix_len}
-use Rattle.letters.specs.Classes.{is_letter, is_digit, is_word, class_of}
+use Rattle.letters.specs.Classes.{is_letter, is_digit, is_word}
 use Rattle.letters.specs.Tokens.{word_lexeme, digits_lexeme}
 use Rattle.letters.proofs.Fronts.{front_word, front_digits, front_end, first, class_letter, class_digit}
 use Rattle.letters.proofs.tokens.token_at.Goals as goal

@@ -1,7 +1,6 @@
-use Rattle.std.proofs.Common.{◌≡◌, ℕ, suc, ◌+◌, ◌-◌, ◌^◌, ◌<◌, ◌≤◌, List, [], ◌∷◌, length, get_or, Ok, sym, refl, ap, ◌∙◌, subst, arith, MatchResult}
+use Rattle.std.proofs.Common.{◌≡◌, ℕ, ◌+◌, ◌-◌, ◌^◌, ◌<◌, [], ◌∷◌, Ok, sym, refl, ap, ◌∙◌, subst, arith, MatchResult}
 use Rattle.std.proofs.lemmas.Bool.{cond-true}
 use Rattle.refusals.specs.declared.Reason.TheVariants.{Undeclared, TooDeep}
-use Rattle.letters.specs.declared.keywords.Keyword.{Keyword}
 use Rattle.letters.specs.declared.keywords.Keyword.TheVariants as word
 use Rattle.letters.specs.declared.symbols.Symbol.TheVariants as mark
 use Rattle.letters.specs.declared.tokens.Token.TheVariants as case

@@ -1,4 +1,4 @@
-use Rattle.std.proofs.Common.{◌≡◌, [], ◌∷◌, ◌++◌, refl, ◌∙◌, arith}
+use Rattle.std.proofs.Common.{[], ◌∷◌, ◌++◌, ◌∙◌, arith}
 use Rattle.reading.specs.Heard.{heard}
 use Rattle.reading.proofs.Declares.{declaration_read}
 use Rattle.reading.proofs.declarations.declaration.Goals as goal

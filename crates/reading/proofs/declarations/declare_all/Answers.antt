@@ -1,11 +1,9 @@
-use Rattle.std.proofs.Common.{◌≡◌, ℕ, ◌+◌, ◌-◌, ◌<◌, ◌≤◌, List, [], ◌∷◌, ◌++◌, length, take, set, sym, refl, ap, ◌∙◌, subst, arith, length-set, length-take, rules}
+use Rattle.std.proofs.Common.{◌+◌, ◌-◌, ◌<◌, ◌∷◌, take, sym, refl, ap, ◌∙◌, subst, arith, length-set, length-take, rules}
 use Rattle.letters.specs.declared.keywords.Keyword.TheVariants.{Var}
 use Rattle.letters.specs.Tokens.{view, token, Inside}
 use Rattle.letters.specs.Tokens as lex
-use Rattle.letters.specs.Texts.{Piece, Ending}
 use Rattle.reading.specs.Heard.{heard}
 use Rattle.reading.specs.Rule.{declarations}
-use Rattle.reading.specs.Reads.{Ahead}
 use Rattle.reading.specs.Declares.{DeclarationRead, DeclarationsRead, DeclarationFails}
 use Rattle.reading.proofs.Aheads.{found, fails_fault}
 use Rattle.reading.proofs.Declares.{declarations_none, declarations_more, declarations_fail, declarations_over, heard_push}

@@ -1,4 +1,4 @@
-use Rattle.std.proofs.Common.{ℕ, ◌-◌, ◌≤◌, List, [], length, take}
+use Rattle.std.proofs.Common.{◌-◌, ◌≤◌, List, length, take}
 use Rattle.letters.specs.Texts.{Piece, Ending}
 use Rattle.reading.specs.Heard.{heard}
 use Rattle.reading.specs.Reads.{Ahead}

@@ -1,4 +1,4 @@
-use Rattle.std.proofs.Common.{◌≡◌, ◌||◌, leb, length, sym, ap, ◌∙◌}
+use Rattle.std.proofs.Common.{◌||◌, leb, length, sym, ap, ◌∙◌}
 use Rattle.reading.specs.Heard.{heard}
 use Rattle.reading.proofs.Tables.{heard-length}
 use Rattle.reading.proofs.declarations.is_taken.Goals as goal

@@ -1,4 +1,4 @@
-use Rattle.std.proofs.Common.{◌≡◌, ◌∷◌, sym, refl, ap, ◌∙◌, subst, arith}
+use Rattle.std.proofs.Common.{◌∷◌, sym, refl, ap, ◌∙◌, subst, arith}
 use Rattle.refusals.specs.declared.Reason.TheVariants.{Unexpected, BadDeclaration}
 use Rattle.letters.specs.Tokens.{view, token, Inside}
 use Rattle.letters.specs.Tokens as lex

@@ -1,18 +1,16 @@
 use denote.Enum.Bare.{same_true, same_false}
-use Rattle.std.proofs.Common.{◌≡◌, ℕ, suc, ◌+◌, ◌-◌, ◌^◌, ◌<◌, List, [], ◌∷◌, length, sym, refl, ap, ◌∙◌, subst, arith, rules, MatchResult}
+use Rattle.std.proofs.Common.{◌≡◌, suc, ◌+◌, ◌-◌, ◌^◌, ◌<◌, [], ◌∷◌, sym, refl, ap, ◌∙◌, subst, arith, rules, MatchResult}
 use Rattle.letters.specs.contracts.symbols.Symbol.{the_type}
 use Rattle.std.proofs.lemmas.Bool.{cond-true}
 use Rattle.refusals.specs.declared.Reason.TheVariants.{Unexpected, Undeclared, TooDeep}
-use Rattle.letters.specs.declared.symbols.Symbol.{Symbol}
 use Rattle.letters.specs.declared.symbols.Symbol.TheVariants.{Open, Close}
-use Rattle.letters.specs.declared.tokens.Token.{Token}
 use Rattle.letters.specs.declared.tokens.Token.TheVariants as case
 use Rattle.letters.specs.Tokens.{view, token, Inside}
 use Rattle.letters.specs.Tokens as lex
 use Rattle.reading.specs.Heard.{heard}
-use Rattle.reading.specs.Grammar.{symbol, operator_terminal, expression_tokens}
-use Rattle.reading.specs.Rule.{expression, operator, the_symbol}
-use Rattle.reading.specs.Reads.{Passed, ExpressionRead, ApplicationRead, Fails, applied}
+use Rattle.reading.specs.Grammar.{expression_tokens}
+use Rattle.reading.specs.Rule.{expression, the_symbol}
+use Rattle.reading.specs.Reads.{ExpressionRead, ApplicationRead, Fails, applied}
 use Rattle.reading.proofs.Aheads.{found, fails_fault, fails_token, passes_token, Bad}
 use Rattle.reading.proofs.Applications.{application, second_fails, number_read, variable_read, bracket_read, bracket_fails, bad_mark, bad_word, bad_depth, bad_start, by_outcome, less_room}
 use Rattle.reading.proofs.Sequences.{fails_then, fails_first}

@@ -1,4 +1,4 @@
-use Rattle.std.proofs.Common.{sym, ◌∙◌}
+use Rattle.std.proofs.Common.{sym}
 use Rattle.reading.proofs.Tables.{among-more, among_none, among_here}
 use Rattle.reading.proofs.names.find.Goals as goal
 

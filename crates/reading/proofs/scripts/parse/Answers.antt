@@ -1,5 +1,4 @@
-use Rattle.std.proofs.Common.{◌≡◌, [], ◌∷◌, length, take, sym, refl, ap, ◌∙◌, subst, ap₂, arith}
-use Rattle.letters.specs.declared.tokens.Token.TheVariants as case
+use Rattle.std.proofs.Common.{[], take, sym, ap, ◌∙◌, subst, ap₂, arith}
 use Rattle.letters.specs.Tokens.{view, token}
 use Rattle.letters.proofs.Going.{made}
 use Rattle.reading.specs.Heard.{heard}

@@ -1,4 +1,4 @@
-use Rattle.std.proofs.Common.{◌≡◌, ◌-◌, ◌++◌, length, take, replicate, sym, refl, ap, ◌∙◌, subst, inl, inr, arith}
+use Rattle.std.proofs.Common.{◌-◌, ◌++◌, length, take, replicate, sym, ap, ◌∙◌, subst, inr, arith}
 use Rattle.syntax.specs.declared.form.Node.TheVariants.{Numeral}
 use Rattle.syntax.specs.declared.form.Row.TheVariants.{Skip}
 use Rattle.syntax.specs.Names.{blank_declaration}

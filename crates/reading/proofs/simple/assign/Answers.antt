@@ -1,4 +1,4 @@
-use Rattle.std.proofs.Common.{◌≡◌, ◌+◌, ◌^◌, ◌<◌, [], ◌∷◌, sym, refl, subst, arith}
+use Rattle.std.proofs.Common.{◌+◌, ◌^◌, ◌<◌, [], ◌∷◌, subst, arith}
 use Rattle.letters.specs.declared.symbols.Symbol.TheVariants.{Assign, Semicolon}
 use Rattle.lists.specs.Overlay.{Laid}
 use Rattle.reading.specs.Heard.{heard}

@@ -1,4 +1,4 @@
-use Rattle.std.proofs.Common.{◌≡◌, ◌+◌, ◌^◌, ◌<◌, ◌∷◌, refl, arith}
+use Rattle.std.proofs.Common.{◌+◌, ◌^◌, ◌<◌, ◌∷◌, refl, arith}
 use Rattle.letters.specs.declared.symbols.Symbol.TheVariants.{Semicolon}
 use Rattle.syntax.specs.Trees as tree
 use Rattle.syntax.proofs.Emitting.{emits_skip}

@@ -1,4 +1,4 @@
-use Rattle.std.proofs.Common.{◌≡◌, [], ◌∷◌, sym, refl, ap, ◌∙◌, subst, arith}
+use Rattle.std.proofs.Common.{[], ◌∷◌, sym, refl, ap, ◌∙◌, subst, arith}
 use Rattle.letters.specs.declared.keywords.Keyword.TheVariants.{Declassify}
 use Rattle.letters.specs.declared.symbols.Symbol.TheVariants.{Open, Close}
 use Rattle.letters.specs.Tokens.{view, token, Inside}

@@ -1,4 +1,4 @@
-use Rattle.std.proofs.Common.{◌≡◌, [], ◌∷◌, refl, arith}
+use Rattle.std.proofs.Common.{[], ◌∷◌, refl, arith}
 use Rattle.letters.specs.declared.symbols.Symbol.TheVariants.{Open, Close}
 use Rattle.reading.specs.Heard.{heard}
 use Rattle.reading.specs.Grammar.{symbol, expression_tokens}

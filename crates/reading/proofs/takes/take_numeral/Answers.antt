@@ -1,7 +1,5 @@
-use Rattle.std.proofs.Common.{◌≡◌, ℕ, ◌∷◌, sym, refl, ap, ◌∙◌, subst}
+use Rattle.std.proofs.Common.{◌∷◌, sym, refl, ap, ◌∙◌, subst}
 use Rattle.refusals.specs.declared.Reason.TheVariants.{Unexpected}
-use Rattle.letters.specs.declared.tokens.Token.{Token}
-use Rattle.letters.specs.declared.tokens.Token.TheVariants as case
 use Rattle.letters.specs.Tokens.{view, token, Inside}
 use Rattle.letters.specs.Tokens as lex
 use Rattle.reading.specs.Rule.{a_numeral}

@@ -1,7 +1,7 @@
-use Rattle.std.proofs.Common.{◌≡◌, List, [], ◌∷◌, sym, refl, ap, ◌∙◌, subst}
+use Rattle.std.proofs.Common.{[], ◌∷◌, sym, ◌∙◌, subst}
 use Rattle.refusals.specs.declared.Reason.TheVariants.{Unexpected}
-use Rattle.letters.specs.Tokens.{view, token, Inside}
-use Rattle.reading.specs.Grammar.{Terminal, terminal, operator_terminal}
+use Rattle.letters.specs.Tokens.{view}
+use Rattle.reading.specs.Grammar.{terminal}
 use Rattle.reading.specs.Rule.{operator}
 use Rattle.reading.specs.Reads.{Passed}
 use Rattle.reading.proofs.Aheads.{fails_fault, fails_token, passes_token}

@@ -1,5 +1,4 @@
 -- Each way through `expression_end`, by the lemma for it in Prefix.antt.
-use Rattle.std.proofs.Common.{◌≡◌, sym, refl, ap, ◌∙◌}
 use Rattle.syntax.proofs.Prefix.{past, numeral_spans, no_numeral, variable_spans, no_variable, too_deep, no_left, both}
 use Rattle.syntax.proofs.expressions.+expression_end.Goals as goal
 

@@ -1,5 +1,5 @@
 -- One declaration a turn, compared with those behind it.
-use Rattle.std.proofs.Common.{◌≡◌, ◌+◌, not, ◌&&◌, drop, sym, refl, ap, ◌∙◌, arith}
+use Rattle.std.proofs.Common.{◌+◌, not, ◌&&◌, drop, sym, ap, ◌∙◌, arith}
 use Rattle.syntax.specs.Names.{distinct, spellings}
 use Rattle.syntax.proofs.Spelled.{distinct_more, distinct_end}
 use Rattle.syntax.proofs.names.all_distinct.Goals as goal

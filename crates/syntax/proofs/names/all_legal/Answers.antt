@@ -1,5 +1,5 @@
 -- One declaration a turn.
-use Rattle.std.proofs.Common.{◌≡◌, ◌+◌, ◌&&◌, drop, sym, refl, ap, ◌∙◌, arith}
+use Rattle.std.proofs.Common.{◌+◌, ◌&&◌, drop, sym, ap, ◌∙◌, arith}
 use Rattle.syntax.specs.Names.{all_legal}
 use Rattle.syntax.proofs.Spelled.{legal_more, legal_end}
 use Rattle.syntax.proofs.names.all_legal.Goals as goal

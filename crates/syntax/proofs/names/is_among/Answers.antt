@@ -1,5 +1,5 @@
 -- One declaration a turn.
-use Rattle.std.proofs.Common.{◌≡◌, ◌+◌, ◌||◌, drop, sym, refl, ap, ◌∙◌, arith}
+use Rattle.std.proofs.Common.{◌+◌, ◌||◌, drop, sym, ap, ◌∙◌, arith}
 use Rattle.syntax.specs.Names.{among, spelled, spellings}
 use Rattle.syntax.proofs.Spelled.{among-more, among_end}
 use Rattle.syntax.proofs.names.is_among.Goals as goal

@@ -1,5 +1,5 @@
 -- One byte a turn.
-use Rattle.std.proofs.Common.{◌≡◌, ◌+◌, ◌-◌, ◌<◌, ◌&&◌, length, drop, sym, refl, ap, ◌∙◌, arith}
+use Rattle.std.proofs.Common.{◌≡◌, ◌+◌, ◌-◌, ◌<◌, ◌&&◌, length, drop, sym, ap, ◌∙◌, arith}
 use Rattle.syntax.specs.Names.{padded}
 use Rattle.syntax.proofs.Spelled.{padded-more, padded_end}
 use Rattle.syntax.proofs.names.is_padded.Goals as goal

@@ -1,5 +1,5 @@
 -- A length past the end takes all bytes.
-use Rattle.std.proofs.Common.{arith, rules}
+use Rattle.std.proofs.Common.{rules}
 use Rattle.syntax.proofs.Spelled.{take_15}
 use Rattle.syntax.proofs.names.spelling.Goals as goal
 

@@ -1,5 +1,5 @@
 -- A row that is taken in front, by kinds of rows.
-use Rattle.std.proofs.Common.{◌≡◌, sym, refl, ap, ◌∙◌, arith}
+use Rattle.std.proofs.Common.{arith}
 use Rattle.syntax.proofs.Opens.{then_prepended, body_prepended, else_prepended, end_prepended, back_prepended, plain_prepended}
 use Rattle.syntax.proofs.rows.prepend.Goals as goal
 

@@ -1,7 +1,6 @@
 -- The loop from the last row to the first, beside the decoder.
-use Rattle.std.proofs.Common.{◌≡◌, suc, ◌-◌, ◌<◌, ◌&&◌, eqb, length, is_some, sym, refl, ap, ◌∙◌, arith}
-use Rattle.std.proofs.lemmas.Bool.{ne_eqb, eq-eqb, and_left}
-use Rattle.syntax.proofs.Opens.{Sofar, start, no_row, no_turn, one_more, expression, ends}
+use Rattle.std.proofs.Common.{◌≡◌, suc, ◌-◌, ◌<◌, length, is_some, sym, refl, ap, ◌∙◌, arith}
+use Rattle.syntax.proofs.Opens.{start, no_row, no_turn, one_more, ends}
 use Rattle.syntax.proofs.rows.statements_stand.Goals as goal
 
 pub each-init : goal.each-init

@@ -1,5 +1,5 @@
 -- What the decoder has read from row i on, and what the code keeps of it.
-use Rattle.std.proofs.Common.{◌≡◌, ◌≤◌, length}
+use Rattle.std.proofs.Common.{◌≤◌, length}
 use Rattle.syntax.proofs.Opens.{Sofar}
 use Rattle.syntax.proofs.rows.statements_stand.Given as goal
 

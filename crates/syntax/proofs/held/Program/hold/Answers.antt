@@ -1,5 +1,5 @@
 -- Both checks together say that the lists are a form.
-use Rattle.std.proofs.Common.{◌≡◌, true, false, is_some, sym, refl, ap, ◌∙◌}
+use Rattle.std.proofs.Common.{◌≡◌, false, is_some, sym, refl, ◌∙◌}
 use Rattle.syntax.specs.Forms.{script_of}
 use Rattle.syntax.proofs.Forms.{held, not_held, found, none_found}
 use Rattle.syntax.proofs.held.Program.hold.Goals as goal
