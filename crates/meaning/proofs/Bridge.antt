@@ -23,7 +23,7 @@ use Rattle.meaning.proofs.Programs.{at, named_first_rows, nesting}
 use Rattle.meaning.proofs.Programs as code
 use Rattle.meaning.proofs.Interpretations.{machine}
 use Rattle.meaning.proofs.Numbers as numbers
-use Rattle.meaning.proofs.Numbers.{number_told, tree_row}
+use Rattle.meaning.proofs.Numbers.{register_number, tree_row}
 use Rattle.meaning.proofs.Frames.{plus_is}
 
 -- ---- scripts by two parts
@@ -100,8 +100,8 @@ rising_is (suc n) p = ap (λ l. l ++ cond (p n) (n ∷ []) []) (rising_is n p)
 abbrev pub onto : ℕ → Code Reg → Statements → Statements
 onto n cnil rest = rest
 onto n cskip rest = then tree.skip rest
-onto n (cassign r e) rest = then (tree.assign (number_told n r) (numbers.tree n e)) rest
-onto n (crelease r e) rest = then (tree.release (number_told n r) (numbers.tree n e)) rest
+onto n (cassign r e) rest = then (tree.assign (register_number n r) (numbers.tree n e)) rest
+onto n (crelease r e) rest = then (tree.release (register_number n r) (numbers.tree n e)) rest
 onto n (cwrite t e) rest = then (tree.write (natural t) (numbers.tree n e)) rest
 onto n (cstop k) rest = then (tree.stop k) rest
 onto n (cseq A B) rest = onto n A (onto n B rest)

@@ -15,7 +15,7 @@ pub record Laws (F : Interpretation) : Type 0 where
   pub eq_refl : (a : Value) → F.equal a a ≡ true
   pub one_z : F.equal F.one F.z ≡ false
   pub op_eq : (a b : Value) → F.apply F.eq_op a b ≡ cond (F.equal a b) F.one F.z
-  pub code_z_lem : IsMachineCode F F.z
+  pub z_is_code : IsMachineCode F F.z
   pub code_J : {a b : Value} → IsMachineCode F a → IsMachineCode F b → IsMachineCode F (F.apply F.join_op a b)
   pub J_z : {a : Value} → IsMachineCode F a → F.apply F.join_op F.z a ≡ a
   pub J_comm : {a b : Value} → IsMachineCode F a → IsMachineCode F b → F.apply F.join_op a b ≡ F.apply F.join_op b a
@@ -113,7 +113,7 @@ machine_laws G L = record {
   eq_refl = equal_z_refl;
   one_z = refl;
   op_eq = λ a b. truth_is (equal_z a b);
-  code_z_lem = L.bottom;
+  z_is_code = L.bottom;
   code_J = λ {a} {b} x y. lift₂ G (λ s t. code_z G.code (operate (joiner G) s t) ≡ true) (λ i j c d. rw (joiner_joins G L i j c d) (L.closed i j c d)) a b x y;
   J_z = λ {a} x. lift₁ G (λ s. operate (joiner G) (pos 0) s ≡ s) (λ i c. joiner_joins G L 0 i L.bottom c ∙ ap pos (L.neutral i c)) a x;
   J_comm = λ {a} {b} x y. lift₂ G (λ s t. operate (joiner G) s t ≡ operate (joiner G) t s)

@@ -42,7 +42,7 @@ module _ (F : Interpretation) (L : Laws F) (rd : Value) (crd : IsMachineCode F r
 
   module _ (ρ0 ρ : Reg → Value) (good : Good F rd ρ0 ρ) where
     pub level_exp_code : (e : Exp ℕ) → IsMachineCode F (eval F ρ (level_exp F e))
-    level_exp_code (num v) = L.code_z_lem
+    level_exp_code (num v) = L.z_is_code
     level_exp_code (var k) = good.codes k
     level_exp_code (op o a b) = L.code_J (level_exp_code a) (level_exp_code b)
 

@@ -19,21 +19,21 @@ use Rattle.meaning.proofs.Relations.{Same, SameFigure}
 use Rattle.meaning.proofs.Equal.{eqb_same}
 
 -- the number of a register, with n own variables
-abbrev pub number_told : ℕ → Reg → ℕ
-number_told n (own k) = k
-number_told n (level k) = level_register n k
-number_told n (mark k) = mark_register n k
-number_told n (guard d) = guard_register n d
+abbrev pub register_number : ℕ → Reg → ℕ
+register_number n (own k) = k
+register_number n (level k) = level_register n k
+register_number n (mark k) = mark_register n k
+register_number n (guard d) = guard_register n d
 
 abbrev pub tree : ℕ → Exp Reg → Expression
 tree n (num v) = number (natural v)
-tree n (var r) = variable (number_told n r)
+tree n (var r) = variable (register_number n r)
 tree n (op o a b) = apply o (tree n a) (tree n b)
 
 abbrev pub tree_row : ℕ → Row Reg → Option TreeRow
 tree_row n rskip = Some skips
-tree_row n (rassign r e) = Some (assigns (number_told n r) (tree n e))
-tree_row n (rrelease r e) = Some (releases (number_told n r) (tree n e))
+tree_row n (rassign r e) = Some (assigns (register_number n r) (tree n e))
+tree_row n (rrelease r e) = Some (releases (register_number n r) (tree n e))
 tree_row n (rwrite t e) = Some (writes (natural t) (tree n e))
 tree_row n (rstop k) = Some (stops k)
 tree_row n (rif e m) = Some (branches (tree n e) m)
@@ -52,7 +52,7 @@ SameNumbered G reader b0 c0 rows (suc k) p b q c =
     SameNumbered G reader b0 c0 rows k (next_row (rows p) p (register b)) (registers_after (rows p) b) (next_row (rows q) q (register c)) (registers_after (rows q) c))
 
 -- the registers in use, which their numbers tell apart
-module _ (n : ℕ) (V : Reg → Type 0) (apart : (r q : Reg) → V r → V q → eqb (number_told n r) (number_told n q) ≡ same_reg r q) where
+module _ (n : ℕ) (V : Reg → Type 0) (apart : (r q : Reg) → V r → V q → eqb (register_number n r) (register_number n q) ≡ same_reg r q) where
   -- an expression over registers in use, with numerals of the language
   abbrev pub ValidE : Exp Reg → Type 0
   ValidE (num v) = v ≡ pos (natural v)
@@ -73,8 +73,8 @@ module _ (n : ℕ) (V : Reg → Type 0) (apart : (r q : Reg) → V r → V q →
   ValidR G rnone = Unit {0}
 
   pub record Match (bank : List ℤ) (ρ : Reg → Value) : Type 0 where
-    pub room : (r : Reg) → V r → number_told n r < length bank
-    pub is : (r : Reg) → V r → register bank (number_told n r) ≡ ρ r
+    pub room : (r : Reg) → V r → register_number n r < length bank
+    pub is : (r : Reg) → V r → register bank (register_number n r) ≡ ρ r
 
   module _ (G : Family) (L : FamilyLaws G) (reader : ℕ) (crd : IsCode G reader) where
     abbrev F : named.Interpretation
@@ -85,18 +85,18 @@ module _ (n : ℕ) (V : Reg → Type 0) (apart : (r q : Reg) → V r → V q →
     eval_match m (var r) w = m.is r w
     eval_match m (op o a b) w = ap₂ (operate o) (eval_match m a w.0) (eval_match m b w.1)
 
-    set_match : {bank : List ℤ} {ρ : Reg → Value} {u v : Value} (r : Reg) → V r → u ≡ v → Match bank ρ → Match (set bank (number_told n r) u) (Rattle.meaning.proofs.Registers.set F r v ρ)
+    set_match : {bank : List ℤ} {ρ : Reg → Value} {u v : Value} (r : Reg) → V r → u ≡ v → Match bank ρ → Match (set bank (register_number n r) u) (Rattle.meaning.proofs.Registers.set F r v ρ)
     set_match {bank} {ρ} {u} {v} r w e m = record {
-      room = λ q x. subst (λ k. number_told n q < k) (sym (length-set bank (number_told n r) u)) (m.room q x);
+      room = λ q x. subst (λ k. register_number n q < k) (sym (length-set bank (register_number n r) u)) (m.room q x);
       is = λ q x. go q x (same_reg r q) (apart r q w x);
     }
       where
-        go : (q : Reg) → V q → (b : Bool) → eqb (number_told n r) (number_told n q) ≡ b → register (set bank (number_told n r) u) (number_told n q) ≡ cond b v (ρ q)
+        go : (q : Reg) → V q → (b : Bool) → eqb (register_number n r) (register_number n q) ≡ b → register (set bank (register_number n r) u) (register_number n q) ≡ cond b v (ρ q)
         go q x true h =
-            let same : number_told n r ≡ number_told n q = eqb→eq (number_told n r) (number_told n q) (rw h tt) in
-            ap (register (set bank (number_told n r) u)) (sym same) ∙ get_or-set_same bank (number_told n r) u (pos 0) (m.room r w) ∙ e
+            let same : register_number n r ≡ register_number n q = eqb→eq (register_number n r) (register_number n q) (rw h tt) in
+            ap (register (set bank (register_number n r) u)) (sym same) ∙ get_or-set_same bank (register_number n r) u (pos 0) (m.room r w) ∙ e
         go q x false h =
-            get_or-set_other bank (number_told n r) (number_told n q) u (pos 0) (λ y. false≢true (sym h ∙ ap (eqb (number_told n r)) y ∙ eqb_same (number_told n r))) ∙ m.is q x
+            get_or-set_other bank (register_number n r) (register_number n q) u (pos 0) (λ y. false≢true (sym h ∙ ap (eqb (register_number n r)) y ∙ eqb_same (register_number n r))) ∙ m.is q x
 
     pub effect_match : {bank : List ℤ} {ρ : Reg → Value} (r : Row Reg) → ValidR G r → Match bank ρ → Match (registers_after (tree_row n r) bank) (effect F r ρ)
     effect_match rskip w m = m

@@ -41,7 +41,7 @@ module _ (F : Interpretation) (L : Laws F) (rd : Value) (crd : IsMachineCode F r
 
   -- the guard level around a place
   pub guard_at_lem : (D : ℕ) {ρ σ : Reg → Value} → Tied D ρ σ → (eval F ρ (guard_exp F D) ≡ eval F σ (guard_exp F D)) × Flows F rd (eval F ρ (guard_exp F D)) × IsMachineCode F (eval F ρ (guard_exp F D))
-  guard_at_lem zero r = (refl, flows_bottom F L rd crd, L.code_z_lem)
+  guard_at_lem zero r = (refl, flows_bottom F L rd crd, L.z_is_code)
   guard_at_lem (suc d) r = r.guards d (omega arith)
 
   pub related_less : {D : ℕ} {ρ σ : Reg → Value} → Tied (suc D) ρ σ → Tied D ρ σ

@@ -169,7 +169,7 @@ module _ (F : Interpretation) (L : Laws F) (rd : Value) (crd : IsMachineCode F r
           (both F rd ρ0 σ0 rows p.first.0 refl refl (both F rd ρ0 σ0 rows p.first.1.0 refl refl
           (mono F rd ρ0 σ0 rows (tick F rd ρ0 σ0 rows p.first.1.1 p.first.1.1 refl
           (λ f. both F rd ρ0 σ0 rows p.between refl refl (s _ _
-          (related_assign F L rd crd ρ0 σ0 K L.code_z_lem L.code_z_lem
+          (related_assign F L rd crd ρ0 σ0 K L.z_is_code L.z_is_code
           (inl (
             refl,
             flows_bottom F L rd crd,

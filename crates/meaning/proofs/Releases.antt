@@ -72,7 +72,7 @@ module _ (F : Interpretation) where
       guards : (d : ℕ) → d < D → IsMachineCode F (ρ (guard d))
 
     guard_code : (D : ℕ) {ρ : Reg → Value} → Ok D ρ → IsMachineCode F (eval F ρ (guard_exp F D))
-    guard_code zero r = L.code_z_lem
+    guard_code zero r = L.z_is_code
     guard_code (suc d) r = r.guards d (omega arith)
 
     ok_less : {D : ℕ} {ρ : Reg → Value} → Ok (suc D) ρ → Ok D ρ
@@ -153,7 +153,7 @@ module _ (F : Interpretation) where
               ap (λ d. eval F ρ1 (guard_exp F d)) o.1.1.1 ∙ guard_kept D K z one ρ ∙ none.0,
               subst (λ d. d ≤ H) (sym o.1.1.1) h,
             )
-            (pass p.between tt (s _ (ok_assign K z _ L.code_z_lem r))))))
+            (pass p.between tt (s _ (ok_assign K z _ L.z_is_code r))))))
         go false q = if_test true p.head (test_no F L rd _ _ q) (pass p.second.0 tt (pass p.second.1.0 tt (pass p.second.1.1 tt (pass p.foot tt (s ρ r)))))
 
     fine : (S : Script) (D b k : ℕ) → D + nesting S ≤ H → Placed rows b (rewrite F N D S) → Noted places D b (rewrite F N D S) →

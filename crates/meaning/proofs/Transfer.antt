@@ -8,7 +8,7 @@ use Rattle.meaning.specs.Machine.{register, next_row, registers_after, no_row, s
 use Rattle.meaning.proofs.NamedCode.{Interpretation, Value, Exp, Reg, Row, rskip, rassign, rrelease, rwrite, rstop, rif, relse, rend, rwhile, rback, rnone, Releasing}
 use Rattle.meaning.proofs.Registers.{same_reg}
 use Rattle.meaning.proofs.Interpretations.{machine}
-use Rattle.meaning.proofs.Numbers.{number_told, tree, tree_row, ValidE, ValidR, Match, effect_match, next_match, shows_match}
+use Rattle.meaning.proofs.Numbers.{register_number, tree, tree_row, ValidE, ValidR, Match, effect_match, next_match, shows_match}
 use Rattle.meaning.proofs.Releases.{FineBy}
 use Rattle.meaning.proofs.Bought.{see, Goes, Exactly}
 
@@ -28,7 +28,7 @@ ExactlyNumbered G reader ok last rows (suc n) p b l =
 abbrev pub anywhere : List ℤ → Type 0
 anywhere b = Unit {0}
 
-module _ (n : ℕ) (V : Reg → Type 0) (apart : (r q : Reg) → V r → V q → eqb (number_told n r) (number_told n q) ≡ same_reg r q)
+module _ (n : ℕ) (V : Reg → Type 0) (apart : (r q : Reg) → V r → V q → eqb (register_number n r) (register_number n q) ≡ same_reg r q)
     (G : Family) (L : FamilyLaws G) (reader : ℕ) (crd : IsCode G reader) where
   abbrev F : Interpretation
   F = machine G

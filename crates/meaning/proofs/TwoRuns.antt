@@ -73,7 +73,7 @@ module _ (F : Interpretation) (L : Laws F) (rd : Value) (crd : IsMachineCode F r
     over (suc k) r = tick F rd ρ0 σ0 rows r r refl (λ f. over k r)
 
   pub pick-code : (ls : List Value) → All (IsMachineCode F) ls → (j : ℕ) → IsMachineCode F (level_at_lem z ls j)
-  pick-code [] c j = L.code_z_lem
+  pick-code [] c j = L.z_is_code
   pick-code (l ∷ ls) c zero = c.0
   pick-code (l ∷ ls) c (suc j) = pick-code ls c.1 j
 

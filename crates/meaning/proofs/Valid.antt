@@ -10,7 +10,7 @@ use Rattle.meaning.proofs.NamedRules.{Script, nil, skip, assign, release, write,
 use Rattle.meaning.proofs.Registers.{same_reg}
 use Rattle.meaning.proofs.Interpretations.{machine}
 use Rattle.meaning.proofs.Programs.{at, named_first_rows, program, plain, named_plain_rows, nesting}
-use Rattle.meaning.proofs.Numbers.{number_told, ValidE, ValidR, Match}
+use Rattle.meaning.proofs.Numbers.{register_number, ValidE, ValidR, Match}
 use Rattle.meaning.proofs.Equal.{eqb_no, eqb_same}
 
 eqb_cong : (a b c d : ℕ) → (a ≡ b → c ≡ d) → (c ≡ d → a ≡ b) → eqb a b ≡ eqb c d
@@ -27,7 +27,7 @@ RewrittenRegister n H (level k) = k < n
 RewrittenRegister n H (mark k) = k < n
 RewrittenRegister n H (guard d) = d < H
 
-pub rewritten_apart : (n H : ℕ) (r q : Reg) → RewrittenRegister n H r → RewrittenRegister n H q → eqb (number_told n r) (number_told n q) ≡ same_reg r q
+pub rewritten_apart : (n H : ℕ) (r q : Reg) → RewrittenRegister n H r → RewrittenRegister n H q → eqb (register_number n r) (register_number n q) ≡ same_reg r q
 rewritten_apart n H (own i) (own j) v w = refl
 rewritten_apart n H (own i) (level j) v w = eqb_no _ _ (omega arith)
 rewritten_apart n H (own i) (mark j) v w = eqb_no _ _ (omega arith)
@@ -52,7 +52,7 @@ OwnRegister n (level k) = ⊥
 OwnRegister n (mark k) = ⊥
 OwnRegister n (guard d) = ⊥
 
-pub own_apart : (n : ℕ) (r q : Reg) → OwnRegister n r → OwnRegister n q → eqb (number_told n r) (number_told n q) ≡ same_reg r q
+pub own_apart : (n : ℕ) (r q : Reg) → OwnRegister n r → OwnRegister n q → eqb (register_number n r) (register_number n q) ≡ same_reg r q
 own_apart n (own i) (own j) v w = refl
 own_apart n (own i) (level j) v w = absurd w
 own_apart n (own i) (mark j) v w = absurd w
@@ -86,7 +86,7 @@ pub code-natural : (G : Family) (t : Value) → IsMachineCode (machine G) t → 
 code-natural G (pos k) c = refl
 code-natural G (negsuc k) c = absurd (false≢true c)
 
-module _ (n : ℕ) (V : Reg → Type 0) (apart : (r q : Reg) → V r → V q → eqb (number_told n r) (number_told n q) ≡ same_reg r q) (G : Family) where
+module _ (n : ℕ) (V : Reg → Type 0) (apart : (r q : Reg) → V r → V q → eqb (register_number n r) (register_number n q) ≡ same_reg r q) (G : Family) where
   abbrev ValidE' : Exp Reg → Type 0
   ValidE' = ValidE n V apart
 
@@ -244,13 +244,13 @@ pub begins : (n H : ℕ) (bank : List ℤ) → n + n + n + H ≤ length bank →
     Match n (RewrittenRegister n H) (rewritten_apart n H) bank (beginning n bank)
 begins n H bank long h = record { room = room; is = go }
   where
-    room : (r : Reg) → RewrittenRegister n H r → number_told n r < length bank
+    room : (r : Reg) → RewrittenRegister n H r → register_number n r < length bank
     room (own k) v = omega arith
     room (level k) v = omega arith
     room (mark k) v = omega arith
     room (guard k) v = omega arith
 
-    go : (r : Reg) → RewrittenRegister n H r → register bank (number_told n r) ≡ beginning n bank r
+    go : (r : Reg) → RewrittenRegister n H r → register bank (register_number n r) ≡ beginning n bank r
     go (own k) v = own_beginning n bank k v
     go (level k) v = h (n + k) (omega arith) (omega arith)
     go (mark k) v = h (n + n + k) (omega arith) (omega arith)
@@ -260,13 +260,13 @@ begins n H bank long h = record { room = room; is = go }
 pub begins_bought : (n : ℕ) (bank : List ℤ) → n ≤ length bank → Match n (OwnRegister n) (own_apart n) bank (beginning n bank)
 begins_bought n bank long = record { room = room; is = go }
   where
-    room : (r : Reg) → OwnRegister n r → number_told n r < length bank
+    room : (r : Reg) → OwnRegister n r → register_number n r < length bank
     room (own k) v = omega arith
     room (level k) v = absurd v
     room (mark k) v = absurd v
     room (guard k) v = absurd v
 
-    go : (r : Reg) → OwnRegister n r → register bank (number_told n r) ≡ beginning n bank r
+    go : (r : Reg) → OwnRegister n r → register bank (register_number n r) ≡ beginning n bank r
     go (own k) v = own_beginning n bank k v
     go (level k) v = absurd v
     go (mark k) v = absurd v

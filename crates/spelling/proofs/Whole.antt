@@ -50,4 +50,4 @@ pub text_back : (p : Program) → Held p → {x after : List ℕ} {n : ℕ} → 
 text_back p held {x} {after} {n} f =
     let s = script_held p in
     let same : take n after ≡ spelling s = ap (take n) f.holds ∙ take_at (spelling s) (replicate (length x - length (spelling s)) 0) n (sym f.count) in
-    subst (λ l. TextOf l s) (sym same) (reads_back s held.well_formed_digits f.not_too_long)
+    subst (λ l. TextOf l s) (sym same) (reads_back s held.well_formed f.not_too_long)

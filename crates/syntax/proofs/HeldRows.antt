@@ -151,7 +151,7 @@ begins a (goes_back m) = refl
 
 -- the lists of a held program are the form of its script
 pub record Found (p : Program) : Type 0 where
-  pub well_formed_digits : WellFormed (script_held p)
+  pub well_formed : WellFormed (script_held p)
   pub is_form : IsForm (script_held p) p.declarations.now p.rows.now p.nodes.now
 
 found_script : (p : Program) → is_some (script_of p.declarations.now p.rows.now p.nodes.now) ≡ true → Found p
@@ -163,7 +163,7 @@ found_script p h = by (script_of p.declarations.now p.rows.now p.nodes.now) refl
         let w = forms.1 s p.declarations.now p.rows.now p.nodes.now e in
         let m : s ≡ script_held p = sym (ap script_or_empty e) in
         record {
-          well_formed_digits = subst WellFormed m w.0;
+          well_formed = subst WellFormed m w.0;
           is_form = subst (λ s. IsForm s p.declarations.now p.rows.now p.nodes.now) m w.1;
         }
 
@@ -182,7 +182,7 @@ row_found p h r x lt e =
     let last : length fs + 0 ≡ row_after_in 0 (script_held p).statements + 0 = long_in 0 (script_held p).statements [] in
     let k = length p.declarations.now in
     let kd : length (script_held p).declarations ≡ k = ap length (sym h.is_form.declarations_are) in
-    let s : LegalStatements k (script_held p).statements = subst (λ n. LegalStatements n (script_held p).statements) kd h.well_formed_digits.legal in
+    let s : LegalStatements k (script_held p).statements = subst (λ n. LegalStatements n (script_held p).statements) kd h.well_formed.legal in
     record {
       expression = expression_in f;
       from = a;
@@ -198,7 +198,7 @@ pub held_program : (p : Program) → Held p
 held_program p =
     let h = found_script p p.ok in
     record {
-      well_formed_digits = h.well_formed_digits;
+      well_formed = h.well_formed;
       is_form = h.is_form;
       placed = placed_form (script_held p).statements p.rows.now p.nodes.now h.is_form.rows_are h.is_form.nodes_are;
       count = count_rows p h;

@@ -77,7 +77,7 @@ module _ (rows : List Row) (nodes : List Node) where
           if_row = h.0;
           condition = stands nodes n e (left (Numeral 0) nodes n (expression_nodes e) (nodes_in A ++ nodes_in B) k);
           first_arm = placed_in (b + 1) (n + size e) A (left Skip rows (b + 1) ra (u ∷ (rb ++ (EndIf ∷ []))) h1) (left (Numeral 0) nodes (n + size e) (nodes_in A) (nodes_in B) k1);
-          else_row_lem = h2.0;
+          else_row = h2.0;
           second_arm = placed_in (b + 2 + row_counts A) (n + size e + node_counts A) B (left Skip rows (b + 2 + row_counts A) rb (EndIf ∷ []) h3) k2;
           end_row = h4.0;
         }
@@ -88,7 +88,7 @@ module _ (rows : List Row) (nodes : List Node) where
         let h2 = right Skip rows (b + 1) ra (EndWhile b ∷ []) (b + 1 + row_counts A) (omega (arith, rows-length (b + 1) (n + size e) A)) h1 in
         let k1 = right (Numeral 0) nodes n (expression_nodes e) (nodes_in A) (n + size e) (omega (arith, expression_length e)) k in
         record {
-          while_row_lem = h.0;
+          while_row = h.0;
           condition = stands nodes n e (left (Numeral 0) nodes n (expression_nodes e) (nodes_in A) k);
           body = placed_in (b + 1) (n + size e) A (left Skip rows (b + 1) ra (EndWhile b ∷ []) h1) k1;
           end_row = h2.0;

@@ -69,7 +69,7 @@ pub record RowHeld (p : Program) (r : ℕ) (x : Row) : Type 0 where
   pub fits : RowFits (length p.declarations.now) (length p.rows.now) (with_tree x expression)
 
 pub record Held (p : Program) : Type 0 where
-  pub well_formed_digits : WellFormed (script_held p)
+  pub well_formed : WellFormed (script_held p)
   pub is_form : IsForm (script_held p) p.declarations.now p.rows.now p.nodes.now
   pub placed : PlacedIn p.rows.now p.nodes.now 0 0 (script_held p).statements
   pub count : length (tree_rows_held p) ≡ length p.rows.now

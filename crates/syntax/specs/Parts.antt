@@ -107,12 +107,12 @@ abbrev mutual
     if_row : RowAt rows b (If n (b + 1 + row_counts A));
     condition : Stands nodes n e;
     first_arm : PlacedIn rows nodes (b + 1) (n + size e) A;
-    else_row_lem : RowAt rows (b + 1 + row_counts A) (Else (b + 2 + row_counts A + row_counts B));
+    else_row : RowAt rows (b + 1 + row_counts A) (Else (b + 2 + row_counts A + row_counts B));
     second_arm : PlacedIn rows nodes (b + 2 + row_counts A) (n + size e + node_counts A) B;
     end_row : RowAt rows (b + 2 + row_counts A + row_counts B) EndIf;
   }
   Placed rows nodes b n (while e A) = record {
-    while_row_lem : RowAt rows b (While n (b + 1 + row_counts A));
+    while_row : RowAt rows b (While n (b + 1 + row_counts A));
     condition : Stands nodes n e;
     body : PlacedIn rows nodes (b + 1) (n + size e) A;
     end_row : RowAt rows (b + 1 + row_counts A) (EndWhile b);

@@ -6,8 +6,7 @@
 --
 -- Example: 2147483647 + 1 is -2147483648; -1 | 0 is -1; 5 / 0 is 0.
 use Rattle.std.specs.Prelude.{ℕ, Bool, true, false, cond, ℤ, pos, negsuc, ◌+ℤ◌, ◌-ℤ◌, ◌*ℤ◌, Some, None, Option, ◌==◌, bit_or, int_div, int_lt}
-use Rattle.std.proofs.Common.{to_z, of_z}
-use Rattle.std.specs.Int.{int_max, int_wrap, w32}
+use Rattle.std.specs.Int.{cast_signed, cast_unsigned, int_max, int_wrap, w32}
 use Rattle.values.specs.declared.Operator.{Operator}
 use Rattle.values.specs.declared.Operator.TheVariants.{Add, Subtract, Multiply, Divide, Equal, Less, Maximum, Or}
 
@@ -20,7 +19,7 @@ equal_z (negsuc a) (negsuc b) = a == b
 
 -- the quotient: `int_div` drops the fraction and gives 0 at a zero divisor; the least number over -1 wraps to itself
 abbrev pub quotient : ℤ → ℤ → ℤ
-quotient a b = to_z w32 (of_z w32 (int_div a b))
+quotient a b = cast_signed w32 (cast_unsigned w32 (int_div a b))
 
 -- what a comparison gives
 abbrev pub truth : Bool → ℤ
@@ -35,7 +34,7 @@ operate Divide a b = quotient a b
 operate Equal a b = truth (equal_z a b)
 operate Less a b = truth (int_lt a b)
 operate Maximum a b = int_max a b
-operate Or a b = to_z w32 (bit_or (of_z w32 a) (of_z w32 b))
+operate Or a b = cast_signed w32 (bit_or (cast_unsigned w32 a) (cast_unsigned w32 b))
 
 -- the operators' numbers
 abbrev pub number_of : Operator → ℕ
