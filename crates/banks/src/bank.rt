@@ -22,8 +22,8 @@ pub trait Bank {
     fn read(&self, k: usize) -> Option<i32>
         ensures { result ≡ slice_get (registers self.now) k };
 
-    // Sets register k to v, and no other, and answers `true`. Where there is no such register it changes nothing, as `set`
-    // does past the end of a list, and answers `false`.
+    // Sets register k to v, and no other, and answers `true`. Where there is no such register it changes nothing, as
+    // `slice_set` does past the end of a list, and answers `false`.
     fn write(&mut self, k: usize, v: i32) -> bool
         ensures told { result ≡ nat_lt k (length (registers self.old)) }
         ensures after { registers self.new ≡ slice_set (registers self.old) k v }
