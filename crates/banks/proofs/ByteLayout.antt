@@ -4,11 +4,12 @@ use borrow.Author.Tests.{le-false}
 use mir.Facts.{Fits-of_z, sfits_to_z}
 use mir.Val.{sel}
 use Rattle.std.proofs.lemmas.List.{ext_get_or, get_or-drop}
+use Rattle.std.proofs.lemmas.Nat.{from_be_bytes-to_be_bytes_4}
 use Rattle.std.proofs.lemmas.Int.{ints, to_z-of_z, of_z-to_z, to_z_pos}
 use Rattle.std.proofs.lemmas.Bool.{cases_lt}
 use Rattle.banks.specs.Words.{unsigned, word_at}
 use Rattle.banks.specs.Laws.{Bytes, AllBytes, FourEach, SignedNumbers, EveryNumber, ReadBack, NothingElse}
-use Rattle.banks.proofs.Registers.{four_digits, length-words, words-at, words-written, left_over_written, length-written}
+use Rattle.banks.proofs.Registers.{length-words, words-at, words-written, left_over_written, length-written}
 
 pub four_each : FourEach
 unfolding word_at
@@ -29,7 +30,7 @@ signed_numbers a b c d h =
 pub every_number : EveryNumber
 every_number z f =
     let n : ℕ = of_z w32 z in
-    (n / 2 ^ 24 % 256, n / 2 ^ 16 % 256, n / 2 ^ 8 % 256, n % 256, (omega arith, omega arith, omega arith, omega arith), ap (to_z w32) (four_digits n (Fits-of_z f).fits) ∙ to_z-of_z w32 z f)
+    (n / 2 ^ 24 % 256, n / 2 ^ 16 % 256, n / 2 ^ 8 % 256, n % 256, (omega arith, omega arith, omega arith, omega arith), ap (to_z w32) (from_be_bytes-to_be_bytes_4 n (Fits-of_z f).fits) ∙ to_z-of_z w32 z f)
 
 pub read_back : ReadBack
 read_back bs k v f = (words-written bs k v f, left_over_written bs k v, length-written bs k v)

@@ -1,4 +1,4 @@
 pub mod Registers
-pub mod Vectors
+pub mod Chunks
 pub mod Zeros
 pub mod ByteLayout

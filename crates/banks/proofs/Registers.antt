@@ -1,9 +1,9 @@
 -- Registers in bytes: reading one, and writing one.
-use Rattle.std.proofs.Common.{◌≡◌, ℕ, ◌+◌, ◌*◌, ◌/◌, ◌%◌, ◌^◌, ◌<◌, ◌≤◌, true, false, cond, ltb, ◌≢◌, ◌⊎◌, List, length, get_or, drop, set, ℤ, pos, Some, None, sym, refl, ap, ◌∙◌, subst, ⊎_elim, mod-eq_of_lt, div-add-mod', arith, length-set, get_or-set_other, get_or-set_same, w32, SFits, to_z, of_z}
+use Rattle.std.proofs.Common.{◌≡◌, ℕ, ◌+◌, ◌*◌, ◌/◌, ◌%◌, ◌^◌, ◌<◌, ◌≤◌, true, false, cond, ltb, ◌≢◌, ◌⊎◌, List, length, get_or, drop, set, ℤ, pos, Some, None, sym, refl, ap, ◌∙◌, subst, ⊎_elim, arith, length-set, get_or-set_other, get_or-set_same, w32, SFits, to_z, of_z}
 use borrow.Author.Tests.{lt-true, le-false}
 use mir.Facts.{Fits-of_z}
 use Rattle.std.specs.List.{slice_get}
-use Rattle.std.proofs.lemmas.Nat.{shr-shr}
+use Rattle.std.proofs.lemmas.Nat.{from_be_bytes-to_be_bytes_4}
 use Rattle.std.proofs.lemmas.List.FromFn.{length-map-range_with_len, get_or-map-range_with_len}
 use Rattle.std.proofs.lemmas.List.{ext_get_or, set_past, drop-set-lt}
 use Rattle.std.proofs.lemmas.Option.{slice_get-get_or, slice_get_past}
@@ -53,19 +53,6 @@ put4_3 bs i a b c d h = grind (arith, get_or-set_same, get_or-set_other, length-
 put4_other : (bs : List ℕ) (i j a b c d : ℕ) → (j < i) ⊎ (i + 3 < j) → get_or (put4 bs i a b c d) j 0 ≡ get_or bs j 0
 put4_other bs i j a b c d h = grind (arith, get_or-set_other)
 
--- four digits to the base 256, from the lowest up
-from_digits : (n q1 q2 q3 r0 r1 r2 : ℕ) → q1 * 256 + r0 ≡ n → q2 * 256 + r1 ≡ q1 → q3 * 256 + r2 ≡ q2 → q3 * 2 ^ 24 + r2 * 2 ^ 16 + r1 * 256 + r0 ≡ n
-from_digits n q1 q2 q3 r0 r1 r2 e1 e2 e3 = omega arith
-
--- 32 bits are their four bytes
-pub four_digits : (n : ℕ) → n < 2 ^ 32 → n / 2 ^ 24 % 256 * 2 ^ 24 + n / 2 ^ 16 % 256 * 2 ^ 16 + n / 256 % 256 * 256 + n % 256 ≡ n
-four_digits n h =
-    let e1 : n / 256 * 256 + n % 256 ≡ n = div-add-mod' n 256 in
-    let e2 : n / 2 ^ 16 * 256 + n / 256 % 256 ≡ n / 256 = subst (λ q. q * 256 + n / 256 % 256 ≡ n / 256) (shr-shr n 8 8) (div-add-mod' (n / 256) 256) in
-    let e3 : n / 2 ^ 24 * 256 + n / 2 ^ 16 % 256 ≡ n / 2 ^ 16 = subst (λ q. q * 256 + n / 2 ^ 16 % 256 ≡ n / 2 ^ 16) (shr-shr n 16 8) (div-add-mod' (n / 2 ^ 16) 256) in
-    let top : n / 2 ^ 24 % 256 ≡ n / 2 ^ 24 = mod-eq_of_lt (omega arith) in
-    ap (λ q. q * 2 ^ 24 + n / 2 ^ 16 % 256 * 2 ^ 16 + n / 256 % 256 * 256 + n % 256) top ∙ from_digits n _ _ _ _ _ _ e1 e2 e3
-
 -- the register that was written
 put_same : (bs : List ℕ) (k : ℕ) (v : ℤ) → k < length bs / 4 → SFits w32 v → word_at (put_word bs k v) k ≡ v
 unfolding put_word word_at
@@ -77,7 +64,7 @@ put_same bs k v h f =
     let p1 : get_or (put_word bs k v) (4 * k + 1) 0 ≡ n / 2 ^ 16 % 256 = put4_1 bs (4 * k) _ _ _ _ l in
     let p2 : get_or (put_word bs k v) (4 * k + 2) 0 ≡ n / 256 % 256 = put4_2 bs (4 * k) _ _ _ _ l in
     let p3 : get_or (put_word bs k v) (4 * k + 3) 0 ≡ n % 256 = put4_3 bs (4 * k) _ _ _ _ l in
-    ap (to_z w32) (omega (arith, four_digits n top)) ∙ to_z-of_z w32 v f
+    ap (to_z w32) (omega (arith, from_be_bytes-to_be_bytes_4 n top)) ∙ to_z-of_z w32 v f
 
 -- another register
 put_other : (bs : List ℕ) (k j : ℕ) (v : ℤ) → j ≢ k → word_at (put_word bs k v) j ≡ word_at bs j

@@ -29,15 +29,15 @@ unfolding cleared
 cleared_none rs = refl
 
 -- past the last register there is nothing more to set
-pub cleared-all : (n : ℕ) (rs : List ℤ) → cleared (min n (length rs)) rs ≡ cleared n rs
+pub cleared-all : (n : ℕ) (rs : List ℤ) → cleared n rs ≡ cleared (min n (length rs)) rs
 cleared-all n rs =
     let m : ℕ = min n (length rs) in
-    ext_get_or (pos 0) (cleared m rs) (cleared n rs) (length-cleared m rs ∙ sym (length-cleared n rs))
+    ext_get_or (pos 0) (cleared n rs) (cleared m rs) (length-cleared n rs ∙ sym (length-cleared m rs))
     (λ k l.
-    let inside : k < length rs = omega (arith, length-cleared m rs) in
+    let inside : k < length rs = omega (arith, length-cleared n rs) in
     ⊎_elim
-    (λ (h : k < n). cleared-first m rs k (omega arith) ∙ sym (cleared-first n rs k h))
-    (λ (h : n ≤ k). cleared_rest m rs k (omega arith) ∙ sym (cleared_rest n rs k h))
+    (λ (h : k < n). cleared-first n rs k h ∙ sym (cleared-first m rs k (omega arith)))
+    (λ (h : n ≤ k). cleared_rest n rs k h ∙ sym (cleared_rest m rs k (omega arith)))
     (cases_lt k n))
 
 -- one register more
@@ -56,3 +56,6 @@ cleared_more k rs h =
     (λ (b : k ≤ j). cleared_rest k rs j b ∙ sym (cleared_rest (k + 1) rs j (omega arith)))
     (cases_lt j k))
     (cases_eq j k))
+
+-- what the proof of `reset` needs
+pub ruleset reset_steps = (cleared_none, cleared_more, cleared-all)

@@ -31,6 +31,7 @@ pub trait Bank {
 }
 
 // Sets the first n registers to 0, or all of them where there are fewer, and no other.
+#[tactic(auto, using(crate::proofs::Zeros::reset_steps))]
 pub fn reset<B: Bank>(bank: &mut B, n: usize)
     ensures after { B.registers bank.new ≡ cleared n (B.registers bank.old) }
     ensures same { B.frame bank.new ≡ B.frame bank.old }

@@ -2,15 +2,17 @@
 #![tactic(auto)]
 
 mod bank;
-mod byte_banks;
 mod bytes;
+mod cell_bank;
+mod cells;
 mod laws;
-mod number_banks;
 mod numbers;
+mod stores;
 #[cfg(test)]
 mod tests;
 
 pub use bank::{Bank, reset};
-pub use byte_banks::{ByteBank, LentByteBank};
+pub use cell_bank::{ByteBank, CellBank, LentByteBank, LentNumberBank, NumberBank};
+pub use cells::Cell;
 pub use laws::bank_laws_stand;
-pub use number_banks::{LentNumberBank, NumberBank};
+pub use stores::Store;

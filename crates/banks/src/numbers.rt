@@ -1,33 +1,29 @@
-// Registers kept as numbers: how one is read and written.
-ghost use Rattle.std.specs.Prelude.{◌≡◌, length, nat_lt, slice_set};
-ghost use Rattle.std.specs.List.{slice_get};
+// Registers in numbers, one to a register.
+ghost use Rattle.std.specs.Prelude.{[], slice_set};
 
-// How many numbers there are.
-pub fn count(numbers: &[i32]) -> usize
-    ensures { result ≡ length numbers.now }
-{
-    numbers.len()
-}
+use super::cells::Cell;
 
-// The number k, or `None` past the last.
-pub fn read(numbers: &[i32], k: usize) -> Option<i32>
-    ensures { result ≡ slice_get numbers.now k }
-{
-    if k < numbers.len() {
-        Some(numbers[k])
-    } else {
-        None
+impl Cell for i32 {
+    ghost registers = { λ numbers. numbers };
+
+    ghost spare = { λ _. [] };
+
+    ghost rewritten = { λ numbers k v. slice_set numbers k v };
+
+    fn count(numbers: &[i32]) -> usize {
+        numbers.len()
     }
-}
 
-// Sets the number k to v, or changes nothing past the last, and tells which.
-pub fn write(numbers: &mut [i32], k: usize, v: i32) -> bool
-    ensures told { result ≡ nat_lt k (length numbers.old) }
-    ensures after { numbers.new ≡ slice_set numbers.old k v }
-{
-    if k >= numbers.len() {
-        return false;
+    fn read(numbers: &[i32], k: usize) -> Option<i32> {
+        numbers.get(k).copied()
     }
-    numbers[k] = v;
-    true
+
+    fn write(numbers: &mut [i32], k: usize, v: i32) -> bool {
+        let there = k < numbers.len();
+        if there {
+            // not by `get_mut`, of which std does not say what it leaves in a slice
+            numbers[k] = v;
+        }
+        there
+    }
 }
