@@ -5,10 +5,11 @@
 -- language, without these functions' texts.
 --
 -- Example: 2147483647 + 1 is -2147483648; -1 | 0 is -1; 5 / 0 is 0.
-use Rattle.std.specs.Prelude.{ℕ, Bool, true, false, cond, ℤ, pos, negsuc, ◌+ℤ◌, ◌-ℤ◌, ◌*ℤ◌, Some, None, Option, ◌==◌, bit_or, int_div, int_lt}
+use Rattle.std.specs.Prelude.{◌≡◌, ℕ, List, ◌++◌, codes, decimal, Result, MatchResult, Bool, true, false, cond, ℤ, pos, negsuc, ◌+ℤ◌, ◌-ℤ◌, ◌*ℤ◌, Some, None, Option, ◌==◌, bit_or, int_div, int_lt}
 use Rattle.std.specs.Int.{cast_signed, cast_unsigned, int_max, int_wrap, w32}
 use Rattle.values.specs.declared.Operator.{Operator}
 use Rattle.values.specs.declared.Operator.TheVariants.{Add, Subtract, Multiply, Divide, Equal, Less, Maximum, Or}
+use Rattle.values.specs.declared.UnknownOperator.{UnknownOperator}
 
 -- whether two integers are the same
 abbrev pub equal_z : ℤ → ℤ → Bool
@@ -52,3 +53,11 @@ abbrev pub operator_numbered : ℕ → Option Operator
 operator_numbered n =
     cond (n == 0) (Some Add) (cond (n == 1) (Some Subtract) (cond (n == 2) (Some Multiply) (cond (n == 3) (Some Divide)
     (cond (n == 4) (Some Equal) (cond (n == 5) (Some Less) (cond (n == 6) (Some Maximum) (cond (n == 7) (Some Or) None)))))))
+
+-- the operator of a number, or an error that holds the number where no operator has it
+abbrev pub OperatorOrUnknown : ℕ → Result Operator UnknownOperator → Type 0
+OperatorOrUnknown n r = MatchResult r (λ o. operator_numbered n ≡ Some o) (λ e. (e.0 ≡ n) × (operator_numbered n ≡ None))
+
+-- what an unknown number prints
+abbrev pub shown_unknown : UnknownOperator → List ℕ
+shown_unknown e = codes "no operator has number " ++ decimal e.0

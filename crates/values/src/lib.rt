@@ -1,9 +1,12 @@
 // Signed 32-bit values and the eight operators of a script.
 #![tactic(auto)]
 
-ghost use Rattle.std.specs.Prelude.{◌≡◌};
-ghost use Rattle.values.specs.Operators.{operate, quotient, number_of, operator_numbered};
+ghost use Rattle.std.specs.Prelude.{◌≡◌, Some};
+ghost use Rattle.values.specs.Operators.{operate, quotient, number_of, OperatorOrUnknown, shown_unknown};
 ghost use Rattle.values.specs.Laws.{OperatorLaws};
+
+use std::error::Error;
+use std::fmt;
 
 // The operators `+ - * / = < max |`, in the order of their numbers.
 #[derive(Clone, Copy, PartialEq, Eq, Debug)]
@@ -18,12 +21,16 @@ pub enum Operator {
     Or,
 }
 
-impl Operator {
-    // The operator's number, 0 to 7.
-    pub fn number(self) -> u8
-        ensures { result ≡ number_of self }
-    {
-        match self {
+// A number that no operator has.
+#[derive(Clone, Copy, PartialEq, Eq, Debug)]
+pub struct UnknownOperator(pub u8);
+
+// The operator's number, 0 to 7.
+impl From<Operator> for u8 {
+    ghost from_gives = { λ operator number. number ≡ number_of operator };
+
+    fn from(operator: Operator) -> u8 {
+        match operator {
             Operator::Add => 0,
             Operator::Subtract => 1,
             Operator::Multiply => 2,
@@ -34,24 +41,40 @@ impl Operator {
             Operator::Or => 7,
         }
     }
+}
 
-    // The operator with this number.
-    pub fn from_number(number: u8) -> Option<Operator>
-        ensures { result ≡ operator_numbered number }
-    {
+// The operator with this number.
+impl TryFrom<u8> for Operator {
+    type Error = UnknownOperator;
+
+    ghost try_from_gives = { OperatorOrUnknown };
+
+    fn try_from(number: u8) -> Result<Operator, UnknownOperator> {
         match number {
-            0 => Some(Operator::Add),
-            1 => Some(Operator::Subtract),
-            2 => Some(Operator::Multiply),
-            3 => Some(Operator::Divide),
-            4 => Some(Operator::Equal),
-            5 => Some(Operator::Less),
-            6 => Some(Operator::Maximum),
-            7 => Some(Operator::Or),
-            _ => None,
+            0 => Ok(Operator::Add),
+            1 => Ok(Operator::Subtract),
+            2 => Ok(Operator::Multiply),
+            3 => Ok(Operator::Divide),
+            4 => Ok(Operator::Equal),
+            5 => Ok(Operator::Less),
+            6 => Ok(Operator::Maximum),
+            7 => Ok(Operator::Or),
+            _ => Err(UnknownOperator(number)),
         }
     }
+}
 
+impl fmt::Display for UnknownOperator {
+    ghost output = { λ e. Some (shown_unknown e) };
+
+    fn fmt<W: fmt::Write>(&self, f: &mut fmt::Formatter<W>) -> fmt::Result {
+        write!(f, "no operator has number {}", self.0)
+    }
+}
+
+impl Error for UnknownOperator {}
+
+impl Operator {
     // What the operator gives at two values.
     pub fn apply(self, a: i32, b: i32) -> i32
         ensures { result ≡ operate self a b }
@@ -61,8 +84,8 @@ impl Operator {
             Operator::Subtract => a.wrapping_sub(b),
             Operator::Multiply => a.wrapping_mul(b),
             Operator::Divide => divide(a, b),
-            Operator::Equal => { if a == b { 1 } else { 0 } }
-            Operator::Less => { if a < b { 1 } else { 0 } }
+            Operator::Equal => i32::from(a == b),
+            Operator::Less => i32::from(a < b),
             Operator::Maximum => a.max(b),
             Operator::Or => a | b,
         }
@@ -87,6 +110,7 @@ pub fn operator_laws()
 #[cfg(test)]
 mod tests {
     use super::*;
+    use std::test::Fail;
 
     const LEAST: i32 = -2147483648;
 
@@ -113,5 +137,34 @@ mod tests {
         assert_eq!(rt; Operator::Less.apply(-1, 0), 1);
         assert_eq!(rt; Operator::Maximum.apply(-5, -6), -5);
         assert_eq!(rt; Operator::Or.apply(-1, 0), -1);
+    }
+
+    #[test]
+    fn numbers_of_operators(rt: HostRuntime) {
+        let operators = [
+            Operator::Add,
+            Operator::Subtract,
+            Operator::Multiply,
+            Operator::Divide,
+            Operator::Equal,
+            Operator::Less,
+            Operator::Maximum,
+            Operator::Or,
+        ];
+        for number in 0..8u8 {
+            let operator = operators[usize::from(number)];
+            assert_eq!(rt; u8::from(operator), number);
+            assert_eq!(rt; Operator::try_from(number), Ok(operator));
+        }
+    }
+
+    #[test]
+    fn no_operator_has_number_8(rt: HostRuntime) -> Result<(), Fail> {
+        assert_eq!(rt; Operator::try_from(8), Err(UnknownOperator(8)));
+        assert_eq!(rt;
+            UnknownOperator(8).to_string(rt.alloc())?.as_str(),
+            "no operator has number 8"
+        );
+        Ok(())
     }
 }
