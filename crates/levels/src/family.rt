@@ -2,32 +2,12 @@
 ghost use Rattle.std.specs.Prelude.{◌≡◌, ℕ, ◌<◌, Bool, true, pos, Some};
 ghost use Rattle.levels.specs.Joins.{join_of, flows_to, joined_by};
 
-// A script operator that is known by its number. A law can name the number because it belongs to the type.
-pub trait JoinOperator {
-    ghost number: { ℕ };
-
-    fn number(&self) -> u8
-        ensures { result ≡ number };
-}
-
-// The operator with the number N.
-#[derive(Clone, Copy)]
-pub struct Numbered<const N: u8>;
-
-impl<const N: u8> JoinOperator for Numbered<N> {
-    ghost number = { N };
-
-    fn number(&self) -> u8 {
-        N
-    }
-}
-
 // A family of levels, which may hold data: its codes lie within 0 to 65535, and any two of them have a join.
 pub trait LevelFamily {
-    type Joiner: JoinOperator + Drop;
+    // the number of the script operator that joins codes
+    ghost OPERATOR: { ℕ };
 
-    // the script operator that joins codes
-    const OPERATOR: Self::Joiner;
+    const OPERATOR: u8;
 
     // which numbers are codes
     ghost code: { Self → ℕ → Bool };
@@ -38,9 +18,22 @@ pub trait LevelFamily {
     fn is_code(&self, n: u32) -> bool
         ensures { result ≡ code self.now n };
 
+    // The join of two codes.
+    fn join_codes(&self, a: u32, b: u32) -> u32
+        requires first { code self.now a ≡ true }
+        requires second { code self.now b ≡ true }
+        ensures { result ≡ joined self.now a b };
+
     // The join, or none where either number is no code.
     fn join(&self, a: u32, b: u32) -> Option<u32>
-        ensures { result ≡ join_of (code self.now) (joined self.now) a b };
+        ensures { result ≡ join_of (code self.now) (joined self.now) a b }
+    {
+        if self.is_code(a) && self.is_code(b) {
+            Some(self.join_codes(a, b))
+        } else {
+            None
+        }
+    }
 
     ghost small: { (f : Self) (a : ℕ) → code f a ≡ true → a < 65536 };
 
@@ -57,24 +50,20 @@ pub trait LevelFamily {
     ghost same: { (f : Self) (a : ℕ) → code f a ≡ true → joined f a a ≡ a };
 
     // the script operator, at two codes, gives their join
-    ghost applies: { (f : Self) (a b : ℕ) → code f a ≡ true → code f b ≡ true → joined_by Self.Joiner.JoinOperator.number a b ≡ Some (pos (joined f a b)) };
+    ghost applies: { (f : Self) (a b : ℕ) → code f a ≡ true → code f b ≡ true → joined_by OPERATOR a b ≡ Some (pos (joined f a b)) };
 }
 
 // Whether level a flows to b.
 pub fn flows<F: LevelFamily>(family: &F, a: u32, b: u32) -> bool
     ensures { result ≡ flows_to (F.code family.now) (F.joined family.now) a b }
 {
-    match family.join(a, b) {
-        Some(c) => c == b,
-        None => false,
-    }
+    family.join(a, b) == Some(b)
 }
 
 // The number by which a rewritten script names the joining operator.
 pub fn join_number<F: LevelFamily>(family: &F) -> u8
-    ensures number { result ≡ F.Joiner.JoinOperator.number }
+    ensures number { result ≡ F.OPERATOR }
     ensures joins { (a b : ℕ) → F.code family.now a ≡ true → F.code family.now b ≡ true → joined_by result a b ≡ Some (pos (F.joined family.now a b)) }
 {
-    let operator = F::OPERATOR;
-    operator.number()
+    F::OPERATOR
 }

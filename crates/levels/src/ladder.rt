@@ -1,11 +1,11 @@
 // The ladder: levels 0 to 15, one above the other.
 ghost use Rattle.std.specs.Prelude.{max, nat_lt};
 ghost use Rattle.std.proofs.Common.{rules};
+ghost use Rattle.values.specs.Operators.{number_of};
+ghost use Rattle.values.specs.declared.Operator.TheVariants.{Maximum};
 
-use super::family::{LevelFamily, Numbered};
-
-// the number of the operator `max`
-const MAXIMUM: u8 = 6;
+use super::family::LevelFamily;
+use values::Operator;
 
 const RUNGS: u32 = 16;
 
@@ -13,9 +13,9 @@ const RUNGS: u32 = 16;
 pub struct Ladder;
 
 impl LevelFamily for Ladder {
-    type Joiner = Numbered<MAXIMUM>;
+    ghost OPERATOR = { number_of Maximum };
 
-    const OPERATOR: Numbered<MAXIMUM> = Numbered;
+    const OPERATOR: u8 = Operator::Maximum as u8;
 
     ghost code = { λ _ a. nat_lt a 16 };
 
@@ -41,11 +41,7 @@ impl LevelFamily for Ladder {
         n < RUNGS
     }
 
-    fn join(&self, a: u32, b: u32) -> Option<u32> {
-        if a < RUNGS && b < RUNGS {
-            Some(a.max(b))
-        } else {
-            None
-        }
+    fn join_codes(&self, a: u32, b: u32) -> u32 {
+        a.max(b)
     }
 }

@@ -5,7 +5,7 @@ mod family;
 mod ladder;
 mod parties;
 
-pub use family::{JoinOperator, LevelFamily, Numbered, flows, join_number};
+pub use family::{LevelFamily, flows, join_number};
 pub use ladder::Ladder;
 pub use parties::Parties;
 

@@ -6,11 +6,11 @@ ghost use Rattle.std.proofs.Common.{ltb-true, lt-ltb, ap, arith, rules};
 ghost use Rattle.values.proofs.Bitwise.{or_assoc};
 ghost use Rattle.std.specs.Int.{w32};
 ghost use Rattle.std.proofs.lemmas.Int.{to_z_pos};
+ghost use Rattle.values.specs.Operators.{number_of};
+ghost use Rattle.values.specs.declared.Operator.TheVariants.{Or};
 
-use super::family::{LevelFamily, Numbered};
-
-// the number of the operator `|`
-const OR: u8 = 7;
+use super::family::LevelFamily;
+use values::Operator;
 
 const SETS: u32 = 65536;
 
@@ -18,9 +18,9 @@ const SETS: u32 = 65536;
 pub struct Parties;
 
 impl LevelFamily for Parties {
-    type Joiner = Numbered<OR>;
+    ghost OPERATOR = { number_of Or };
 
-    const OPERATOR: Numbered<OR> = Numbered;
+    const OPERATOR: u8 = Operator::Or as u8;
 
     ghost code = { λ _ a. nat_lt a 65536 };
 
@@ -48,11 +48,7 @@ impl LevelFamily for Parties {
         n < SETS
     }
 
-    fn join(&self, a: u32, b: u32) -> Option<u32> {
-        if a < SETS && b < SETS {
-            Some(a | b)
-        } else {
-            None
-        }
+    fn join_codes(&self, a: u32, b: u32) -> u32 {
+        a | b
     }
 }

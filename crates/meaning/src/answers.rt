@@ -2,14 +2,14 @@
 use refusals::Refusal;
 
 // A line on a sheet: a value, and the level that it is written for.
-#[derive(Clone, Copy)]
+#[derive(Clone, Copy, PartialEq, Eq, Debug)]
 pub struct Line {
     pub level: u32,
     pub value: i32,
 }
 
 // How a run stands. All but the last are settled, and stay.
-#[derive(Clone, Copy)]
+#[derive(Clone, Copy, PartialEq, Eq, Debug)]
 pub enum Standing {
     // no row is left
     Ended,
@@ -23,7 +23,7 @@ pub enum Standing {
 }
 
 // What can be asked of a run that is open.
-#[derive(Clone, Copy)]
+#[derive(Clone, Copy, PartialEq, Eq, Debug)]
 pub enum Call {
     // while it is being filled
     Enter { variable: u32, value: i32 },
@@ -37,7 +37,7 @@ pub enum Call {
 }
 
 // What a call answers.
-#[derive(Clone, Copy)]
+#[derive(Clone, Copy, PartialEq, Eq, Debug)]
 pub enum Answer {
     // the run's state does not have the call
     LeftOut,

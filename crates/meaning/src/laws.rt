@@ -15,7 +15,7 @@ pub fn confinement_stands()
 
 // And so for every family that implements the trait.
 pub fn confinement_for<F: LevelFamily>(family: &F)
-    ensures { ConfinedFor (record { code = F.code family.now; join = F.joined family.now; operator = F.Joiner.JoinOperator.number }) }
+    ensures { ConfinedFor (record { code = F.code family.now; join = F.joined family.now; operator = F.OPERATOR }) }
 {}
 
 // A rewritten script is a script again: its lists can be held.

@@ -30,16 +30,7 @@ impl From<Operator> for u8 {
     ghost from_gives = { λ operator number. number ≡ number_of operator };
 
     fn from(operator: Operator) -> u8 {
-        match operator {
-            Operator::Add => 0,
-            Operator::Subtract => 1,
-            Operator::Multiply => 2,
-            Operator::Divide => 3,
-            Operator::Equal => 4,
-            Operator::Less => 5,
-            Operator::Maximum => 6,
-            Operator::Or => 7,
-        }
+        operator as u8
     }
 }
 
