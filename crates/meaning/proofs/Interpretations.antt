@@ -3,7 +3,10 @@ use Rattle.std.proofs.Common.{◌≡◌, ℕ, zero, suc, max, Bool, true, false,
 use mathlib.Core.Bool.{false≢true}
 use Rattle.values.specs.declared.Operator.{Operator}
 use Rattle.values.specs.declared.Operator.TheVariants.{Equal, Less, Maximum}
-use Rattle.values.specs.Operators.{equal_z, operate, operator_numbered, truth}
+use Rattle.std.specs.Ordering.{int_eq}
+use Rattle.std.proofs.lemmas.Cmp.{int_eq_equiv}
+use Rattle.std.proofs.lemmas.Bool.Decides.{Decides-int_eq, nat_tests}
+use Rattle.values.specs.Operators.{operate, operator_numbered, truth}
 use Rattle.values.proofs.Keeps.{laws}
 use Rattle.meaning.specs.Families as spec
 use Rattle.meaning.specs.Families.{FamilyLaws, IsCode, joiner, operator_or}
@@ -45,7 +48,7 @@ abbrev pub machine : spec.Family → Interpretation
 machine G = record {
   z = pos 0;
   one = pos 1;
-  equal = equal_z;
+  equal = int_eq;
   apply = operate;
   join_op = joiner G;
   max_op = Maximum;
@@ -54,19 +57,12 @@ machine G = record {
   code = code_z G.code;
 }
 
-pub equal_z_sound : (a b : ℤ) → equal_z a b ≡ true → a ≡ b
-equal_z_sound (pos a) (pos b) e = ap pos (eqb→eq a b (rw e tt))
-equal_z_sound (pos a) (negsuc b) e = absurd (false≢true e)
-equal_z_sound (negsuc a) (pos b) e = absurd (false≢true e)
-equal_z_sound (negsuc a) (negsuc b) e = ap negsuc (eqb→eq a b (rw e tt))
-
-pub equal_z_refl : (a : ℤ) → equal_z a a ≡ true
-equal_z_refl (pos a) = eqb_same a
-equal_z_refl (negsuc a) = eqb_same a
-
 truth_is : (b : Bool) → truth b ≡ cond b (pos 1) (pos 0)
 truth_is true = refl
 truth_is false = refl
+
+pub int_eq_pos : (a b : ℕ) → int_eq (pos a) (pos b) ≡ eqb a b
+int_eq_pos a b = grind (arith, nat_tests)
 
 -- the operator of a family gives the join
 pub joiner_joins : (G : spec.Family) → FamilyLaws G → (a b : ℕ) → IsCode G a → IsCode G b → operate (joiner G) (pos a) (pos b) ≡ pos (G.join a b)
@@ -103,16 +99,15 @@ max_none_pos i q (inr h) e = let k : pos (max i 1) ≡ pos 0 = sym (max_pos i 1)
     clash : (n : ℕ) → max n 1 ≡ 0 → ⊥
     clash n x = omega arith
 
-less_zero : (n : ℕ) → operate Less (pos 0) (pos n) ≡ cond (eqb n 0) (pos 0) (pos 1)
-less_zero zero = refl
-less_zero (suc n) = laws.positive (suc n) (omega arith) ∙ sym (ap (λ b. cond b (pos 0) (pos 1)) (eqb_no (suc n) 0 (omega arith)))
+less_zero : (n : ℕ) → operate Less (pos 0) (pos n) ≡ cond (int_eq (pos n) (pos 0)) (pos 0) (pos 1)
+less_zero n = grind (arith, nat_tests)
 
 pub machine_laws : (G : spec.Family) → FamilyLaws G → Laws (machine G)
 machine_laws G L = record {
-  eq_sound = equal_z_sound;
-  eq_refl = equal_z_refl;
+  eq_sound = λ a b. (Decides-int_eq a b).0;
+  eq_refl = int_eq_equiv.refl;
   one_z = refl;
-  op_eq = λ a b. truth_is (equal_z a b);
+  op_eq = λ a b. truth_is (int_eq a b);
   z_is_code = L.bottom;
   code_J = λ {a} {b} x y. lift₂ G (λ s t. code_z G.code (operate (joiner G) s t) ≡ true) (λ i j c d. rw (joiner_joins G L i j c d) (L.closed i j c d)) a b x y;
   J_z = λ {a} x. lift₁ G (λ s. operate (joiner G) (pos 0) s ≡ s) (λ i c. joiner_joins G L 0 i L.bottom c ∙ ap pos (L.neutral i c)) a x;
@@ -127,5 +122,5 @@ machine_laws G L = record {
   max_oz = refl;
   max_oo = refl;
   max_none = λ {p} {m} c h e. lift₁ G (λ s. operate Maximum s m ≡ pos 0 → (s ≡ pos 0) × (m ≡ pos 0)) (λ i x. max_none_pos i m h) p c e;
-  lt_code = λ {g} c. lift₁ G (λ s. operate Less (pos 0) s ≡ cond (equal_z s (pos 0)) (pos 0) (pos 1)) (λ i x. less_zero i) g c;
+  lt_code = λ {g} c. lift₁ G (λ s. operate Less (pos 0) s ≡ cond (int_eq s (pos 0)) (pos 0) (pos 1)) (λ i x. less_zero i) g c;
 }

@@ -5,7 +5,8 @@
 use Rattle.std.proofs.Common.{◌≡◌, ℕ, zero, suc, ◌<◌, Bool, true, false, cond, ◌&&◌, eqb, List, length, set, ℤ, pos, negsuc, Some, None, Option, sym, refl, ap, ◌∙◌, subst, ap₂, eqb→eq, length-set}
 use mathlib.Core.Bool.{false≢true}
 use Rattle.std.proofs.lemmas.List.{get_or-set_same, get_or-set_other}
-use Rattle.values.specs.Operators.{equal_z, operate}
+use Rattle.std.specs.Ordering.{int_eq}
+use Rattle.values.specs.Operators.{operate}
 use Rattle.syntax.specs.Trees.{Expression, number, variable, apply}
 use Rattle.syntax.specs.Form.{TreeRow, skips, assigns, releases, writes, stops, branches, leaves, closes, repeats, goes_back}
 use Rattle.meaning.specs.Families.{Family, FamilyLaws, IsCode, joiner, flows}
@@ -14,7 +15,7 @@ use Rattle.meaning.specs.Rules.{level_register, mark_register, guard_register}
 use Rattle.meaning.proofs.NamedCode as named
 use Rattle.meaning.proofs.NamedCode.{Value, IsMachineCode, Exp, num, var, op, Reg, own, level, mark, guard, Row, rskip, rassign, rrelease, rwrite, rstop, rif, relse, rend, rwhile, rback, rnone, natural, eval, takes_else_lem}
 use Rattle.meaning.proofs.Registers.{same_reg, effect}
-use Rattle.meaning.proofs.Interpretations.{machine, joiner_joins}
+use Rattle.meaning.proofs.Interpretations.{machine, int_eq_pos, joiner_joins}
 use Rattle.meaning.proofs.Relations.{Same, SameFigure}
 use Rattle.meaning.proofs.Equal.{eqb_same}
 
@@ -117,16 +118,16 @@ module _ (n : ℕ) (V : Reg → Type 0) (apart : (r q : Reg) → V r → V q →
     next_match (rrelease r e) p w m = refl
     next_match (rwrite t e) p w m = refl
     next_match (rstop k) p w m = refl
-    next_match (rif e j) p w m = ap (λ x. cond (equal_z x (pos 0)) (suc j) (suc p)) (eval_match m e w)
+    next_match (rif e j) p w m = ap (λ x. cond (int_eq x (pos 0)) (suc j) (suc p)) (eval_match m e w)
     next_match (relse j) p w m = refl
     next_match rend p w m = refl
-    next_match (rwhile e j) p w m = ap (λ x. cond (equal_z x (pos 0)) (suc j) (suc p)) (eval_match m e w)
+    next_match (rwhile e j) p w m = ap (λ x. cond (int_eq x (pos 0)) (suc j) (suc p)) (eval_match m e w)
     next_match (rback j) p w m = refl
     next_match rnone p w m = refl
 
     -- a level flows to the reader's where the operator gives the reader's
-    flows_as : (t : Value) → IsMachineCode F t → flows G (natural t) reader ≡ equal_z (operate (joiner G) t (pos reader)) (pos reader)
-    flows_as (pos k) c = ap₂ (λ x y. (x && y) && eqb (G.join k reader) reader) c crd ∙ ap (λ v. equal_z v (pos reader)) (sym (joiner_joins G L k reader c crd))
+    flows_as : (t : Value) → IsMachineCode F t → flows G (natural t) reader ≡ int_eq (operate (joiner G) t (pos reader)) (pos reader)
+    flows_as (pos k) c = ap₂ (λ x y. (x && y) && eqb (G.join k reader) reader) c crd ∙ sym (int_eq_pos (G.join k reader) reader) ∙ ap (λ v. int_eq v (pos reader)) (sym (joiner_joins G L k reader c crd))
     flows_as (negsuc k) c = absurd (false≢true c)
 
     pub shows_match : {bank : List ℤ} {ρ : Reg → Value} (r : Row Reg) → ValidR G r → Match bank ρ → shows G reader (tree_row n r) (register bank) ≡ named.shows F (pos reader) r ρ
@@ -148,7 +149,7 @@ module _ (n : ℕ) (V : Reg → Type 0) (apart : (r q : Reg) → V r → V q →
     else_match m (rrelease r e) v = refl
     else_match m (rwrite t e) v = refl
     else_match m (rstop k) v = refl
-    else_match m (rif e j) v = ap (λ x. equal_z x (pos 0)) (eval_match m e v)
+    else_match m (rif e j) v = ap (λ x. int_eq x (pos 0)) (eval_match m e v)
     else_match m (relse j) v = refl
     else_match m rend v = refl
     else_match m (rwhile e j) v = refl

@@ -8,7 +8,8 @@
 --
 -- Example: with 3 in register 0, the row `repeats (variable 0) 2` in row 0 goes to row 1; with 0 in it, to row 3.
 use Rattle.std.specs.Prelude.{ℕ, zero, suc, Bool, false, cond, List, [], ◌∷◌, ℤ, pos, Some, None, Option, slice_index_or, slice_set}
-use Rattle.values.specs.Operators.{equal_z, operate}
+use Rattle.std.specs.Ordering.{int_eq}
+use Rattle.values.specs.Operators.{operate}
 use Rattle.syntax.specs.Trees.{Expression, number, variable, apply}
 use Rattle.syntax.specs.Form.{TreeRow, skips, assigns, releases, writes, stops, branches, leaves, closes, repeats, goes_back}
 use Rattle.meaning.specs.declared.answers.Line.{Line}
@@ -25,7 +26,7 @@ value_of regs (variable v) = regs v
 value_of regs (apply o a b) = operate o (value_of regs a) (value_of regs b)
 
 abbrev pub is_zero : ℤ → Bool
-is_zero v = equal_z v (pos 0)
+is_zero v = int_eq v (pos 0)
 
 -- row p of a program, or none behind the last
 abbrev pub row_at : List TreeRow → ℕ → Option TreeRow

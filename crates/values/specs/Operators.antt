@@ -6,17 +6,11 @@
 --
 -- Example: 2147483647 + 1 is -2147483648; -1 | 0 is -1; 5 / 0 is 0.
 use Rattle.std.specs.Prelude.{◌≡◌, ℕ, List, ◌++◌, codes, decimal, Result, MatchResult, Bool, true, false, cond, ℤ, pos, negsuc, ◌+ℤ◌, ◌-ℤ◌, ◌*ℤ◌, Some, None, Option, ◌==◌, bit_or, int_div, int_lt}
+use Rattle.std.specs.Ordering.{int_eq}
 use Rattle.std.specs.Int.{cast_signed, cast_unsigned, int_max, int_wrap, w32}
 use Rattle.values.specs.declared.Operator.{Operator}
 use Rattle.values.specs.declared.Operator.TheVariants.{Add, Subtract, Multiply, Divide, Equal, Less, Maximum, Or}
 use Rattle.values.specs.declared.UnknownOperator.{UnknownOperator}
-
--- whether two integers are the same
-abbrev pub equal_z : ℤ → ℤ → Bool
-equal_z (pos a) (pos b) = a == b
-equal_z (pos a) (negsuc b) = false
-equal_z (negsuc a) (pos b) = false
-equal_z (negsuc a) (negsuc b) = a == b
 
 -- the quotient: `int_div` drops the fraction and gives 0 at a zero divisor; the least number over -1 wraps to itself
 abbrev pub quotient : ℤ → ℤ → ℤ
@@ -32,7 +26,7 @@ operate Add a b = int_wrap w32 (a +ℤ b)
 operate Subtract a b = int_wrap w32 (a -ℤ b)
 operate Multiply a b = int_wrap w32 (a *ℤ b)
 operate Divide a b = quotient a b
-operate Equal a b = truth (equal_z a b)
+operate Equal a b = truth (int_eq a b)
 operate Less a b = truth (int_lt a b)
 operate Maximum a b = int_max a b
 operate Or a b = cast_signed w32 (bit_or (cast_unsigned w32 a) (cast_unsigned w32 b))

@@ -7,6 +7,3 @@ returns-in-Add c = search (rules, wraps)
 
 pub returns-in-Subtract : goal.returns-in-Subtract
 returns-in-Subtract c = search (rules, wraps)
-
-pub returns-in-Multiply : goal.returns-in-Multiply
-returns-in-Multiply c = search (rules, wraps)
