@@ -13,7 +13,7 @@ pub all_split : {A : Type 0} (Q : A → Type 0) (l m : List A) → All Q (l ++ m
 all_split Q [] m a = (tt, a)
 all_split Q (x ∷ l) m a = let r = all_split Q l m a.1 in ((a.0, r.0), r.1)
 
-all_join : {A : Type 0} (Q : A → Type 0) (l m : List A) → All Q l → All Q m → All Q (l ++ m)
+pub all_join : {A : Type 0} (Q : A → Type 0) (l m : List A) → All Q l → All Q m → All Q (l ++ m)
 all_join Q [] m a b = b
 all_join Q (x ∷ l) m a b = (a.0, all_join Q l m a.1 b)
 

@@ -3,7 +3,8 @@
 -- `named_in` turns a list of statements into a sequence of two parts. `onto` puts numbers for the names of code again, in front of a rest. The rows of
 -- what `onto` gives are the rows that the code is laid out to, with numbers for names; and what `onto` gives of the named rewriting is the
 -- rewriting of the rules. So row p of the rewritten script is row p of the named one, and likewise for the script as bought and for the places.
-use Rattle.std.proofs.Common.{◌≡◌, ℕ, zero, suc, ◌+◌, ◌-◌, max, Bool, true, false, cond, ◌&&◌, ◌||◌, List, [], ◌∷◌, ◌++◌, map, pos, Some, None, Option, sym, refl, ap, ◌∙◌, ap₂, append_assoc, add-zero, zero-add, arith}
+use Rattle.std.proofs.Common.{◌≡◌, ℕ, zero, suc, ◌+◌, ◌-◌, max, Bool, true, false, cond, ◌&&◌, ◌||◌, List, [], ◌∷◌, ◌++◌, map, pos, Some, None, Option, sym, refl, ap, ◌∙◌, ap₂, append_assoc, append-nil, add-zero, zero-add, arith}
+use Rattle.std.proofs.lemmas.Bool.{and_parts}
 use mathlib.Core.Path.{fun_ext}
 use mathlib.Core.Bool.{false≢true}
 use Rattle.values.specs.declared.Operator.{Operator}
@@ -205,10 +206,6 @@ pick-laid n [] p = refl
 pick-laid n (x ∷ xs) zero = refl
 pick-laid n (x ∷ xs) (suc p) = pick-laid n xs p
 
-append-nil : {A : Type 0} (l : List A) → l ++ [] ≡ l
-append-nil [] = refl
-append-nil (x ∷ l) = ap (λ r. x ∷ r) (append-nil l)
-
 -- row p of a program that is code with numbers for names
 pub row_at_lem : (n : ℕ) (c : Code Reg) (l : Statements) → onto n c none ≡ l → (p : ℕ) → row_at (tree_rows l) p ≡ tree_row n (at (lay 0 0 c) p).row
 row_at_lem n c l e p =
@@ -290,10 +287,6 @@ module _ (G : Family) (n : ℕ) where
       second : onto n B (onto n (pads (named.toll A - named.toll B)) none) ≡ join B' (padding (tolls A' - tolls B'))
       second = b _ ∙ ap (join B') (pads-onto n (named.toll A - named.toll B) none ∙ join_none (padding (named.toll A - named.toll B)) ∙ ap₂ (λ x y. padding (x - y)) toll_A toll_B)
 
-  pub both_true : (a b : Bool) → (a && b) ≡ true → (a ≡ true) × (b ≡ true)
-  both_true true b e = (refl, e)
-  both_true false b e = absurd (false≢true e)
-
   mutual
     rules_of : (D : ℕ) (s : Statement) → never_stops s ≡ true → (rest : Statements) → onto n (rewrite F n D (named_of s)) rest ≡ join (rewritten_of n j D s) rest
     rules_of D tree.skip h rest = refl
@@ -307,7 +300,7 @@ module _ (G : Family) (n : ℕ) where
         ap₂ (λ x y. then (tree.branch (apply Equal (apply j x (number t)) (number t)) (then (tree.write t y) none) (then tree.skip none)) rest) (guarded_tree D e) (own_tree e)
     rules_of D (tree.stop k) h rest = absurd (false≢true h)
     rules_of D (tree.branch e A B) h rest =
-        let hs = both_true (never_stops_in A) (never_stops_in B) h in
+        let hs = and_parts (never_stops_in A) (never_stops_in B) h in
         let arms : Bool → Statements = λ w. rewritten_arms w (guard_register n D) e (rewritten_in n j (suc D) A) (rewritten_in n j (suc D) B) in
         let up : Statements = raised n j (guard_register n D) (rule.rising n (λ k. changes_in A k || changes_in B k)) in
         ap₂ (λ x y. then (tree.assign (guard_register n D) x) y) (guarded_tree D e)
@@ -322,7 +315,7 @@ module _ (G : Family) (n : ℕ) where
     pub rules_in : (D : ℕ) (l : Statements) → never_stops_in l ≡ true → (rest : Statements) → onto n (rewrite F n D (named_in l)) rest ≡ join (rewritten_in n j D l) rest
     rules_in D none h rest = refl
     rules_in D (then s l) h rest =
-        let hs = both_true (never_stops s) (never_stops_in l) h in
+        let hs = and_parts (never_stops s) (never_stops_in l) h in
         rules_of D s hs.0 (onto n (rewrite F n D (named_in l)) rest) ∙ ap (join (rewritten_of n j D s)) (rules_in D l hs.1 rest)
         ∙ sym (join_assoc (rewritten_of n j D s) (rewritten_in n j D l) rest)
 
@@ -344,7 +337,7 @@ module _ (G : Family) (n : ℕ) where
     bought_of (tree.write t e) h rest = ap (λ x. then (tree.write t x) rest) (own_tree e)
     bought_of (tree.stop k) h rest = absurd (false≢true h)
     bought_of (tree.branch e A B) h rest =
-        let hs = both_true (never_stops_in A) (never_stops_in B) h in
+        let hs = and_parts (never_stops_in A) (never_stops_in B) h in
         ap (λ x. then x rest) (ap₂ (λ t x. tree.branch t x (onto n (code.plain F (named_in B)) none)) (own_tree e) (bought_in A hs.0 none ∙ join_none A)
         ∙ ap (tree.branch e A) (bought_in B hs.1 none ∙ join_none B))
     bought_of (tree.while e A) h rest = ap (λ x. then x rest) (ap₂ tree.while (own_tree e) (bought_in A h none ∙ join_none A))
@@ -352,7 +345,7 @@ module _ (G : Family) (n : ℕ) where
     bought_in : (l : Statements) → never_stops_in l ≡ true → (rest : Statements) → onto n (code.plain F (named_in l)) rest ≡ join l rest
     bought_in none h rest = refl
     bought_in (then s l) h rest =
-        let hs = both_true (never_stops s) (never_stops_in l) h in
+        let hs = and_parts (never_stops s) (never_stops_in l) h in
         bought_of s hs.0 _ ∙ ap (then s) (bought_in l hs.1 rest)
 
   pub bought_onto : (l : Statements) → never_stops_in l ≡ true → onto n (code.plain F (named_in l)) none ≡ l

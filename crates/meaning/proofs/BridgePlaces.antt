@@ -1,5 +1,6 @@
 -- The places of a rewritten script are the places of the named rows: place p belongs to row p.
 use Rattle.std.proofs.Common.{◌≡◌, ℕ, zero, suc, ◌+◌, ◌-◌, Bool, true, false, ◌||◌, List, [], ◌∷◌, ◌++◌, length, replicate, ℤ, sym, refl, ap, ◌∙◌, ap₂, append_assoc, add-zero, one-add}
+use Rattle.std.proofs.lemmas.Bool.{and_parts}
 use mathlib.Core.Bool.{false≢true}
 use Rattle.values.specs.declared.Operator.{Operator}
 use Rattle.syntax.specs.Trees as tree
@@ -13,7 +14,7 @@ use Rattle.meaning.proofs.NamedCode.{Interpretation, Exp, op, Reg, guard, Code, 
 use Rattle.meaning.proofs.NamedRules.{named_has_while, pads, own_exp, level_exp, guard_exp, stop_check_lem, raise, branch, rewrite}
 use Rattle.meaning.proofs.NamedRules as named
 use Rattle.meaning.proofs.Programs.{at, named_first_rows}
-use Rattle.meaning.proofs.Bridge.{exp_of, named_of, named_in, both_true, join_none, toll-onto, rules_in, while_in, raised_is}
+use Rattle.meaning.proofs.Bridge.{exp_of, named_of, named_in, join_none, toll-onto, rules_in, while_in, raised_is}
 
 abbrev pub place_of : Laid Reg → Place
 place_of x = record { depth = x.depth; test = x.test }
@@ -81,7 +82,7 @@ module _ (G : Family) (n : ℕ) where
     places_of_lem D b (tree.write t e) h = refl
     places_of_lem D b (tree.stop k) h = absurd (false≢true h)
     places_of_lem D b (tree.branch e A B) h =
-        let hs = both_true G n (never_stops_in A) (never_stops_in B) h in
+        let hs = and_parts (never_stops_in A) (never_stops_in B) h in
         let X : List Place = places_in n j (suc D) A in
         let Y : List Place = places_in n j (suc D) B in
         let A' : Code Reg = rewrite F n (suc D) (named_in A) in
@@ -108,7 +109,7 @@ module _ (G : Family) (n : ℕ) where
     places_in_lem : (D b : ℕ) (l : Statements) → never_stops_in l ≡ true → place_list (lay D b (rewrite F n D (named_in l))) ≡ places_in n j D l
     places_in_lem D b none h = refl
     places_in_lem D b (then s l) h =
-        let hs = both_true G n (never_stops s) (never_stops_in l) h in
+        let hs = and_parts (never_stops s) (never_stops_in l) h in
         seq_places D b (rewrite F n D (named_of s)) (rewrite F n D (named_in l)) _ _ (places_of_lem D b s hs.0) (places_in_lem D _ l hs.1)
 
   -- the places of a whole script

@@ -3,6 +3,7 @@ use Rattle.std.proofs.Common.{◌≡◌, ℕ, zero, suc, ◌+◌, ◌-◌, ◌<�
 use mathlib.Core.Bool.{false≢true}
 use native.Mathlib.Decide.{dec_lt}
 use Rattle.std.proofs.lemmas.List.{get_or-set_same, get_or-set_other}
+use Rattle.std.proofs.lemmas.Bool.{eq-eqb}
 use Rattle.refusals.specs.declared.Reason.TheVariants as reason
 use Rattle.banks.specs.Cleared.{cleared}
 use Rattle.syntax.specs.Scripts.{Script, WellFormed}
@@ -27,7 +28,6 @@ use Rattle.meaning.proofs.Bridge.{nesting_in_lem}
 use Rattle.meaning.proofs.Setup.{level_values, count_levels, level_value, not_enterable, count_rewritten, script, codes, level_code, well, reads, rewritten-rows, flows_family}
 use Rattle.meaning.proofs.Together.{SameOpening, Alike, same_run, long_enough, has_registers}
 use Rattle.meaning.proofs.Alone.{all_split}
-use Rattle.meaning.proofs.Equal.{eqb_same}
 
 -- ---- registers while a run is filled
 
@@ -80,7 +80,7 @@ entered_same P Q K u v b c hb hc he i lb lc eq e =
         let kc : K < length c = subst (λ j. j < length c) (sym is) lc in
         subst (λ j. register (set b K u) j ≡ register (set c K v) j) is (get_or-set_same b K u (pos 0) kb ∙ eq is ∙ sym (get_or-set_same c K v (pos 0) kc))
     go true false r =
-        let apart : ¬ (i ≡ K) = λ x. false≢true (sym r ∙ ap (eqb K) x ∙ eqb_same K) in
+        let apart : ¬ (i ≡ K) = λ x. false≢true (sym r ∙ ap (eqb K) x ∙ eq-eqb K K refl) in
         get_or-set_other b K i u (pos 0) apart ∙ e ∙ sym (get_or-set_other c K i v (pos 0) apart)
 
 module _ (G : Family) (L : FamilyLaws G) (reader : ℕ) (crd : IsCode G reader) (budget : ℕ) (s : Script) (wf : WellFormed s) (ok : Rewritable G s) where

@@ -1,5 +1,6 @@
 -- Runs that end: what the calls of one run say about its rows, and the other way round.
 use Rattle.std.proofs.Common.{◌≡◌, ℕ, zero, suc, ◌+◌, ◌<◌, ◌≤◌, Bool, true, false, cond, leb, ◌⊎◌, List, [], ◌∷◌, ◌++◌, length, take, ℤ, Some, None, Option, sym, refl, ap, ◌∙◌, subst, ap₂, inl, inr, append_assoc, append-nil, add-zero, zero-add, arith, leb→le, length-append, length-take, take-suc-set}
+use Rattle.std.proofs.lemmas.Bool.{lt-leb}
 use mathlib.Core.Bool.{false≢true}
 use lib.Dec.{nleb→lt}
 use Rattle.syntax.specs.Form.{TreeRow, skips, assigns, releases, writes, stops, branches, leaves, closes, repeats, goes_back}
@@ -17,16 +18,6 @@ use Rattle.meaning.proofs.Bought.{see, Goes}
 use Rattle.meaning.proofs.Transfer.{ExactlyNumbered, anywhere}
 use Rattle.meaning.proofs.Together.{going_settle, Room, length_sheet, going_room, kept_room}
 use Rattle.meaning.proofs.Alone.{calls_keep, all_unit}
-
-leb_no : (m n : ℕ) → n < m → leb m n ≡ false
-leb_no m n h = go (leb m n) refl
-  where
-    go : (b : Bool) → leb m n ≡ b → leb m n ≡ false
-    go true q = let k : m ≤ n = leb→le m n (rw q tt) in absurd (clash k)
-      where
-        clash : m ≤ n → ⊥
-        clash k = omega arith
-    go false q = q
 
 -- ---- standings
 
@@ -134,8 +125,8 @@ module _ (budget : ℕ) where
 
   judge_goes : (o : Shown) (k size n : ℕ) → Goes o → Room o k size → n < budget → judge budget o k size n ≡ MoreToDo
   judge_goes no_row k size n g r h = absurd g
-  judge_goes silent k size n g r h = ap (λ b. cond b BudgetSpent MoreToDo) (leb_no budget n h)
-  judge_goes (printed l) k size n g r h = ap₂ (λ a b. cond a SheetFull (cond b BudgetSpent MoreToDo)) (leb_no size k r) (leb_no budget n h)
+  judge_goes silent k size n g r h = ap (λ b. cond b BudgetSpent MoreToDo) (lt-leb budget n h)
+  judge_goes (printed l) k size n g r h = ap₂ (λ a b. cond a SheetFull (cond b BudgetSpent MoreToDo)) (lt-leb size k r) (lt-leb budget n h)
   judge_goes (stopped j) k size n g r h = absurd g
 
   module _ (G : Family) (reader : ℕ) (regs : ℕ → ℤ) where
@@ -145,7 +136,7 @@ module _ (budget : ℕ) where
 
     start_goes : (r : Option TreeRow) → Goes (shows G reader r regs) → 0 < budget → judge_start budget r ≡ MoreToDo
     start_goes None g h = absurd g
-    start_goes (Some r) g h = ap (λ b. cond b BudgetSpent MoreToDo) (leb_no budget 0 h)
+    start_goes (Some r) g h = ap (λ b. cond b BudgetSpent MoreToDo) (lt-leb budget 0 h)
 
     -- a row shows more than that there is none
     is_row : (r : TreeRow) → shows G reader (Some r) regs ≡ no_row → ⊥

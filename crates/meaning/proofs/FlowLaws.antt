@@ -1,24 +1,20 @@
 -- What flows to what is a partial order, and the join is its least upper bound.
 use Rattle.std.proofs.Common.{◌≡◌, ℕ, Bool, true, false, ◌&&◌, eqb, sym, refl, ap, ◌∙◌, ap₂, eqb→eq}
+use Rattle.std.proofs.lemmas.Bool.{eq-eqb, and_parts}
 use mathlib.Core.Bool.{false≢true}
 use Rattle.meaning.specs.Families.{Family, FamilyLaws, IsCode, flows}
 use Rattle.meaning.specs.FlowLaws.{FlowLaws, FlowLawsHold}
-use Rattle.meaning.proofs.Equal.{eqb_same}
-
-both : (a b : Bool) → (a && b) ≡ true → (a ≡ true) × (b ≡ true)
-both true b e = (refl, e)
-both false b e = absurd (false≢true e)
 
 module _ (G : Family) (L : FamilyLaws G) where
   -- a flows to b where both are codes and their join is b
   told : (a b : ℕ) → flows G a b ≡ true → IsCode G a × IsCode G b × (G.join a b ≡ b)
   told a b e =
-      let h = both (G.code a && G.code b) (eqb (G.join a b) b) e in
-      let k = both (G.code a) (G.code b) h.0 in
+      let h = and_parts (G.code a && G.code b) (eqb (G.join a b) b) e in
+      let k = and_parts (G.code a) (G.code b) h.0 in
       (k.0, k.1, eqb→eq (G.join a b) b (rw h.1 tt))
 
   tells : (a b : ℕ) → IsCode G a → IsCode G b → G.join a b ≡ b → flows G a b ≡ true
-  tells a b x y e = ap₂ (λ p q. (p && q) && eqb (G.join a b) b) x y ∙ ap (λ z. eqb z b) e ∙ eqb_same b
+  tells a b x y e = ap₂ (λ p q. (p && q) && eqb (G.join a b) b) x y ∙ ap (λ z. eqb z b) e ∙ eq-eqb b b refl
 
   laws : FlowLaws G
   laws = record {

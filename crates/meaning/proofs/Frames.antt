@@ -1,20 +1,12 @@
 -- What rows leave unchanged (Frame), what a run keeps (Good), and how the registers' updates keep it.
-use Rattle.std.proofs.Common.{◌≡◌, ℕ, zero, suc, ◌+◌, ◌-◌, ◌<◌, Bool, true, false, cond, ◌||◌, eqb, List, [], ◌∷◌, ◌++◌, sym, refl, ap, ◌∙◌, subst, ap₂, inl, inr, arith, eqb→eq}
+use Rattle.std.proofs.Common.{◌≡◌, ℕ, zero, suc, ◌+◌, ◌-◌, ◌<◌, Bool, true, false, cond, ◌||◌, eqb, List, [], ◌∷◌, ◌++◌, sym, refl, ap, ◌∙◌, subst, ap₂, ⊎_elim, inl, inr, arith, eqb→eq}
+use Rattle.std.proofs.lemmas.Bool.{ne_eqb, eq-eqb, or_cases}
 use mathlib.Core.Bool.{or-true, or_assoc, false≢true}
 use Rattle.meaning.proofs.NamedCode.{Interpretation, Value, IsMachineCode, Reg, own, level, mark, guard, eval}
 use Rattle.meaning.proofs.Registers.{set}
 use Rattle.meaning.proofs.NamedRules.{Script, nil, skip, assign, release, write, seq, if, while, assigns, rising, NamedWellFormed, guard_exp, plus, toll, pads}
-use Rattle.meaning.proofs.Equal.{eqb_no, eqb_same}
 use Rattle.meaning.proofs.Interpretations.{Laws}
 use Rattle.meaning.proofs.Relations.{Mark, Good}
-
-pub or_false : (a b : Bool) → (a || b) ≡ false → (a ≡ false) × (b ≡ false)
-or_false true b e = absurd (false≢true (sym e))
-or_false false b e = (refl, e)
-
-or_cases : (a b : Bool) {P : Type 0} → (a || b) ≡ true → (a ≡ true → P) → (b ≡ true → P) → P
-or_cases true b e f g = f refl
-or_cases false b e f g = g e
 
 abbrev pub mem : ℕ → List ℕ → Bool
 mem K [] = false
@@ -31,7 +23,7 @@ rising_none (suc n) p K h = mem-append K (rising n p) _ ∙ ap (λ b. b || mem K
   where
     last : (b : Bool) → p n ≡ b → mem K (cond b (n ∷ []) []) ≡ false
     last false e = refl
-    last true e = ap (λ b. b || false) (eqb_no n K (λ q. false≢true (sym h ∙ ap p (sym q) ∙ e)))
+    last true e = ap (λ b. b || false) (ne_eqb n K (λ q. false≢true (sym h ∙ ap p (sym q) ∙ e)))
 
 -- .. and all of that below n
 pub rising-all : (n : ℕ) (p : ℕ → Bool) (K : ℕ) → K < n → p K ≡ true → mem K (rising n p) ≡ true
@@ -44,7 +36,7 @@ rising-all (suc n) p K l h = mem-append K (rising n p) _ ∙ last (eqb n K) refl
     last : (b : Bool) → eqb n K ≡ b → (K < n → mem K (rising n p) ≡ true) → (mem K (rising n p) || mem K (cond (p n) (n ∷ []) [])) ≡ true
     last true e f = ap (λ b. mem K (rising n p) || mem K (cond b (n ∷ []) [])) (ap p (eqb→eq n K (rw e tt)) ∙ h)
         ∙ ap (λ b. mem K (rising n p) || (b || false)) e ∙ or-true (mem K (rising n p))
-    last false e f = let apart : ¬ (n ≡ K) = λ x. false≢true (sym e ∙ ap (eqb n) (sym x) ∙ eqb_same n) in
+    last false e f = let apart : ¬ (n ≡ K) = λ x. false≢true (sym e ∙ ap (eqb n) (sym x) ∙ eq-eqb n n refl) in
         ap (λ b. b || mem K (cond (p n) (n ∷ []) [])) (f (omega arith))
 
 pub assigned_below : (C : Value → Type 0) (n : ℕ) (S : Script) → NamedWellFormed C n S → (K : ℕ) → assigns S K ≡ true → K < n
@@ -53,8 +45,8 @@ assigned_below C n skip w K h = absurd (false≢true h)
 assigned_below C n (assign J e) w K h = subst (λ x. x < n) (eqb→eq J K (rw h tt)) w
 assigned_below C n (release J e) w K h = subst (λ x. x < n) (eqb→eq J K (rw h tt)) w
 assigned_below C n (write t e) w K h = absurd (false≢true h)
-assigned_below C n (seq A B) w K h = or_cases (assigns A K) (assigns B K) h (assigned_below C n A w.0 K) (assigned_below C n B w.1 K)
-assigned_below C n (if e A B) w K h = or_cases (assigns A K) (assigns B K) h (assigned_below C n A w.0 K) (assigned_below C n B w.1 K)
+assigned_below C n (seq A B) w K h = ⊎_elim (assigned_below C n A w.0 K) (assigned_below C n B w.1 K) (or_cases (assigns A K) (assigns B K) h)
+assigned_below C n (if e A B) w K h = ⊎_elim (assigned_below C n A w.0 K) (assigned_below C n B w.1 K) (or_cases (assigns A K) (assigns B K) h)
 assigned_below C n (while e A) w K h = assigned_below C n A w K h
 
 pub plus_is : (n m : ℕ) → plus n m ≡ n + m
@@ -107,10 +99,10 @@ module _ (F : Interpretation) where
   }
 
   pub frame_guard : (D : ℕ) (v : Value) {ρ : Reg → Value} → Frame D (λ K. false) ρ (set F (guard D) v ρ)
-  frame_guard D v {ρ} = record { vars = λ K h. (refl, refl, refl); guards_kept = λ d h. ap (λ b. cond b v (ρ (guard d))) (eqb_no D d (omega arith)) }
+  frame_guard D v {ρ} = record { vars = λ K h. (refl, refl, refl); guards_kept = λ d h. ap (λ b. cond b v (ρ (guard d))) (ne_eqb D d (omega arith)) }
 
   pub read_guard : (D : ℕ) (v : Value) (ρ : Reg → Value) → set F (guard D) v ρ (guard D) ≡ v
-  read_guard D v ρ = ap (λ x. cond x v (ρ (guard D))) (eqb_same D)
+  read_guard D v ρ = ap (λ x. cond x v (ρ (guard D))) (eq-eqb D D refl)
 
   pub frame_less : {D E : ℕ} {P R : ℕ → Bool} {ρ σ : Reg → Value} → D < suc E → ((K : ℕ) → R K ≡ false → P K ≡ false) →
       Frame E P ρ σ → Frame D R ρ σ

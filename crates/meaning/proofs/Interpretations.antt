@@ -11,7 +11,6 @@ use Rattle.values.proofs.Keeps.{laws}
 use Rattle.meaning.specs.Families as spec
 use Rattle.meaning.specs.Families.{FamilyLaws, IsCode, joiner, operator_or}
 use Rattle.meaning.proofs.NamedCode.{Interpretation, Value, IsMachineCode}
-use Rattle.meaning.proofs.Equal.{eqb_no, eqb_same}
 
 pub record Laws (F : Interpretation) : Type 0 where
   pub eq_sound : (a b : Value) → F.equal a b ≡ true → a ≡ b

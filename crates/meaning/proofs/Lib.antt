@@ -5,7 +5,6 @@
 -- numbered registers to keep step with the named ones (Numbers to BridgePlaces). Last, runs and lists of calls (Together to Confinement).
 
 -- equality of numbers, tested
-pub mod Equal
 -- the machine and the rules by named registers
 pub mod NamedCode
 pub mod NamedRules

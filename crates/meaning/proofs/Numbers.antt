@@ -6,6 +6,7 @@ use Rattle.std.proofs.Common.{◌≡◌, ℕ, zero, suc, ◌<◌, Bool, true, fa
 use mathlib.Core.Bool.{false≢true}
 use Rattle.std.proofs.lemmas.List.{get_or-set_same, get_or-set_other}
 use Rattle.std.specs.Ordering.{int_eq}
+use Rattle.std.proofs.lemmas.Bool.{eq-eqb}
 use Rattle.values.specs.Operators.{operate}
 use Rattle.syntax.specs.Trees.{Expression, number, variable, apply}
 use Rattle.syntax.specs.Form.{TreeRow, skips, assigns, releases, writes, stops, branches, leaves, closes, repeats, goes_back}
@@ -17,7 +18,6 @@ use Rattle.meaning.proofs.NamedCode.{Value, IsMachineCode, Exp, num, var, op, Re
 use Rattle.meaning.proofs.Registers.{same_reg, effect}
 use Rattle.meaning.proofs.Interpretations.{machine, int_eq_pos, joiner_joins}
 use Rattle.meaning.proofs.Relations.{Same, SameFigure}
-use Rattle.meaning.proofs.Equal.{eqb_same}
 
 -- the number of a register, with n own variables
 abbrev pub register_number : ℕ → Reg → ℕ
@@ -97,7 +97,7 @@ module _ (n : ℕ) (V : Reg → Type 0) (apart : (r q : Reg) → V r → V q →
             let same : register_number n r ≡ register_number n q = eqb→eq (register_number n r) (register_number n q) (rw h tt) in
             ap (register (set bank (register_number n r) u)) (sym same) ∙ get_or-set_same bank (register_number n r) u (pos 0) (m.room r w) ∙ e
         go q x false h =
-            get_or-set_other bank (register_number n r) (register_number n q) u (pos 0) (λ y. false≢true (sym h ∙ ap (eqb (register_number n r)) y ∙ eqb_same (register_number n r))) ∙ m.is q x
+            get_or-set_other bank (register_number n r) (register_number n q) u (pos 0) (λ y. false≢true (sym h ∙ ap (eqb (register_number n r)) y ∙ eq-eqb (register_number n r) (register_number n r) refl)) ∙ m.is q x
 
     pub effect_match : {bank : List ℤ} {ρ : Reg → Value} (r : Row Reg) → ValidR G r → Match bank ρ → Match (registers_after (tree_row n r) bank) (effect F r ρ)
     effect_match rskip w m = m

@@ -1,5 +1,6 @@
 -- The relation between two runs, kept by the updates of rewritten rows.
 use Rattle.std.proofs.Common.{◌≡◌, ℕ, zero, suc, ◌<◌, Bool, true, false, cond, eqb, sym, refl, ap, ◌∙◌, subst, ap₂, inl, inr, arith, eqb→eq}
+use Rattle.std.proofs.lemmas.Bool.{eq-eqb}
 use mathlib.Core.Bool.{false≢true}
 use Rattle.meaning.proofs.NamedCode.{Interpretation, Value, IsMachineCode, Exp, num, var, op, Reg, own, level, mark, guard, eval}
 use Rattle.meaning.proofs.Registers.{set}
@@ -8,7 +9,6 @@ use Rattle.meaning.proofs.Interpretations.{Laws, Flows}
 use Rattle.meaning.proofs.Relations.{Agree, Mark, Good, Rel}
 use Rattle.meaning.proofs.Levels.{flows_bottom, low_guard, mark_exp_mark}
 use Rattle.meaning.proofs.Frames.{one≢z, Frame, good_assign, good_guard, good_raise, mark_raise}
-use Rattle.meaning.proofs.Equal.{eqb_same}
 
 module _ (F : Interpretation) (L : Laws F) (rd : Value) (crd : IsMachineCode F rd) (ρ0 σ0 : Reg → Value) where
   open F use {z, one, equal, apply, join_op, max_op, eq_op, lt_op}
@@ -58,7 +58,7 @@ module _ (F : Interpretation) (L : Laws F) (rd : Value) (crd : IsMachineCode F r
       go : (d : ℕ) → d < suc D → (b : Bool) → eqb D d ≡ b →
           (cond b v (ρ (guard d)) ≡ cond b w (σ (guard d))) × Flows F rd (cond b v (ρ (guard d))) × IsMachineCode F (cond b v (ρ (guard d)))
       go d h true q = (e, f, c)
-      go d h false q = let apart : ¬ (D ≡ d) = λ x. false≢true (sym q ∙ ap (eqb D) (sym x) ∙ eqb_same D) in r.guards d (omega arith)
+      go d h false q = let apart : ¬ (D ≡ d) = λ x. false≢true (sym q ∙ ap (eqb D) (sym x) ∙ eq-eqb D D refl) in r.guards d (omega arith)
 
   pub related_assign : {D : ℕ} {ρ σ : Reg → Value} (K : ℕ) {l v m w : Value} → IsMachineCode F l → IsMachineCode F m → Agree F rd l v m w → Tied D ρ σ →
       Tied D (set F (own K) v (set F (mark K) one (set F (level K) l ρ))) (set F (own K) w (set F (mark K) one (set F (level K) m σ)))

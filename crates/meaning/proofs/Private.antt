@@ -1,6 +1,7 @@
 -- Under a guard above the reader, a rewritten list without whiles takes exactly its toll of silent steps, ends behind itself,
 -- and changes only the variables assigned in it and deeper guards. One run alone.
 use Rattle.std.proofs.Common.{◌≡◌, ℕ, zero, suc, ◌-◌, ◌<◌, Bool, true, false, cond, ◌||◌, eqb, List, [], ◌∷◌, sym, refl, ap, ◌∙◌, subst, arith}
+use Rattle.std.proofs.lemmas.Bool.{or_parts}
 use mathlib.Core.Bool.{false≢true}
 use Rattle.meaning.proofs.NamedCode.{natural, Interpretation, Value, IsMachineCode, Exp, op, Reg, level, mark, guard, Code, cassign, cseq, Row, rif, eval, after}
 use Rattle.meaning.specs.Machine.{line_of, printed, silent}
@@ -11,7 +12,7 @@ use Rattle.meaning.proofs.Interpretations.{Laws, Flows}
 use Rattle.meaning.proofs.Relations.{Mark, Good}
 use Rattle.meaning.proofs.Levels.{flows_zero, flows_left, flows_right, level_exp_code, mark_exp_mark}
 use Rattle.meaning.proofs.Steps.{Quiet, here, then, bind, map_quiet}
-use Rattle.meaning.proofs.Frames.{mem, rising_none, rising-all, assigned_below, or_false, pad_even, Frame, frame_refl, frame_trans, frame_assign, frame_raise, frame_guard, guard_exp_frame, frame_less, read_guard, test_yes, test_no, good_assign, good_guard, good_raise, mark_raise, mark_one}
+use Rattle.meaning.proofs.Frames.{mem, rising_none, rising-all, assigned_below, pad_even, Frame, frame_refl, frame_trans, frame_assign, frame_raise, frame_guard, guard_exp_frame, frame_less, read_guard, test_yes, test_no, good_assign, good_guard, good_raise, mark_raise, mark_one}
 
 module _ (F : Interpretation) (L : Laws F) (rd : Value) (crd : IsMachineCode F rd) (ρ0 σ0 : Reg → Value) (rows : ℕ → Row Reg) (N : ℕ) where
   open F use {z, one, equal, apply, join_op, max_op, eq_op, lt_op}
@@ -78,7 +79,7 @@ module _ (F : Interpretation) (L : Laws F) (rd : Value) (crd : IsMachineCode F r
 
       raised : (σ : Reg → Value) → Raised d ks ρ1 σ → Raised d (k ∷ ks) ρ σ
       raised σ r = record {
-        keeps = λ D. frame_trans F (omega arith) (λ K e. or_false (eqb k K) (mem K ks) e)
+        keeps = λ D. frame_trans F (omega arith) (λ K e. or_parts (eqb k K) (mem K ks) e)
             (frame_raise F {D = D} k l m) (r.keeps D);
         up = λ f K e. here_or_there f K (eqb k K) refl (mem K ks) refl e;
       }
@@ -119,11 +120,11 @@ module _ (F : Interpretation) (L : Laws F) (rd : Value) (crd : IsMachineCode F r
       go : (c : Bool) → equal (eval F ρ e) z ≡ c → QuietFrom (toll (branch F D e A B false)) b ρ out (Post α0 (suc D) (λ K. xs K || ys K) ρ)
       go false t = go_then p.head t
           (bind F rd ρ0 σ0 rows (bind F rd ρ0 σ0 rows (qa (suc b) p.first.0) (λ σ h. quiet_pads (toll B - toll A) _ σ {Q = Post α0 (suc D) xs ρ} p.first.1 h))
-          (λ σ h. then F rd ρ0 σ0 rows p.between refl (here F rd ρ0 σ0 rows (h.0, frame_less F (omega arith) (λ K k. (or_false (xs K) (ys K) k).0) h.1))))
+          (λ σ h. then F rd ρ0 σ0 rows p.between refl (here F rd ρ0 σ0 rows (h.0, frame_less F (omega arith) (λ K k. (or_parts (xs K) (ys K) k).0) h.1))))
       go true t = go_else p.head t
           (subst (λ n. QuietFrom (plus n 1) (suc (after (suc b) (cseq A (pads (toll B - toll A))))) ρ out (Post α0 (suc D) (λ K. xs K || ys K) ρ)) (pad_even (toll A) (toll B))
           (bind F rd ρ0 σ0 rows (bind F rd ρ0 σ0 rows (qb _ p.second.0) (λ σ h. quiet_pads (toll A - toll B) _ σ {Q = Post α0 (suc D) ys ρ} p.second.1 h))
-          (λ σ h. then F rd ρ0 σ0 rows p.foot refl (here F rd ρ0 σ0 rows (h.0, frame_less F (omega arith) (λ K k. (or_false (xs K) (ys K) k).1) h.1)))))
+          (λ σ h. then F rd ρ0 σ0 rows p.foot refl (here F rd ρ0 σ0 rows (h.0, frame_less F (omega arith) (λ K k. (or_parts (xs K) (ys K) k).1) h.1)))))
 
   -- the same with the raising rows behind it
   pub quiet_if : (α0 : Reg → Value) (D b : ℕ) (e : Exp Reg) (A B : Code Reg) (xs ys : ℕ → Bool) (ρ : Reg → Value) →
@@ -161,11 +162,11 @@ module _ (F : Interpretation) (L : Laws F) (rd : Value) (crd : IsMachineCode F r
       let ct = level_exp_code F L rd crd α0 ρ g e in
       quiet_write D t e b ρ {Q = Post α0 D (λ K. false) ρ} cs (L.code_J ct cp) (λ f. up (flows_right F L rd crd ct cp f)) p (g, frame_refl F)
   quiet (seq A B) α0 D b ρ p w cs g cp up =
-      let ws = or_false (named_has_while A) (named_has_while B) w in
+      let ws = or_parts (named_has_while A) (named_has_while B) w in
       bind F rd ρ0 σ0 rows (quiet A α0 D b ρ p.0 ws.0 cs.0 g cp up) (λ σ h.
       let e = sym (guard_exp_frame F D h.1) in
       map_quiet F rd ρ0 σ0 rows (quiet B α0 D _ σ p.1 ws.1 cs.1 h.0 (subst (IsMachineCode F) e cp) (subst (λ x. ¬ Flows F rd x) e up))
-      (λ τ k. (k.0, frame_trans F (omega arith) (λ K m. or_false (assigns A K) (assigns B K) m) h.1 k.1)))
+      (λ τ k. (k.0, frame_trans F (omega arith) (λ K m. or_parts (assigns A K) (assigns B K) m) h.1 k.1)))
   quiet (if e A B) α0 D b ρ p w cs g cp up =
       let v : Value = apply join_op (eval F ρ (level_exp F e)) (eval F ρ (guard_exp F D)) in
       let ρ1 : Reg → Value = set F (guard D) v ρ in
@@ -174,7 +175,7 @@ module _ (F : Interpretation) (L : Laws F) (rd : Value) (crd : IsMachineCode F r
       let cg : IsMachineCode F (ρ1 (guard D)) = subst (IsMachineCode F) is (L.code_J ct cp) in
       let above : ¬ Flows F rd (ρ1 (guard D)) = subst (λ x. ¬ Flows F rd x) is (λ f. up (flows_right F L rd crd ct cp f)) in
       let good = good_guard F L rd D v g in
-      let ws = or_false (named_has_while A) (named_has_while B) w in
+      let ws = or_parts (named_has_while A) (named_has_while B) w in
       let qa = λ (c : ℕ) (q : Placed rows c (rewrite F N (suc D) A)). quiet A α0 (suc D) c ρ1 q ws.0 cs.0 good cg above in
       let qb = λ (c : ℕ) (q : Placed rows c (rewrite F N (suc D) B)). quiet B α0 (suc D) c ρ1 q ws.1 cs.1 good cg above in
       let code : Bool → Code Reg = λ x. cseq (cassign (guard D) (op join_op (level_exp F e) (guard_exp F D)))

@@ -1,5 +1,6 @@
 -- Two runs of a rewritten list show a reader the same.
 use Rattle.std.proofs.Common.{◌≡◌, ℕ, zero, suc, ◌-◌, Bool, true, false, cond, ◌||◌, List, [], ◌∷◌, sym, refl, ap, ◌∙◌, subst, ap₂, inl, inr, arith}
+use Rattle.std.proofs.lemmas.Bool.{or_parts}
 use mathlib.Core.Bool.{false≢true}
 use Rattle.meaning.proofs.NamedCode.{natural, bought, Interpretation, Value, IsMachineCode, Exp, op, Reg, level, mark, guard, Code, cassign, cseq, cif, cwhile, Row, rassign, rif, rstop, eval, after}
 use Rattle.meaning.specs.Machine.{line_of, printed, silent}
@@ -10,7 +11,7 @@ use Rattle.meaning.proofs.Interpretations.{Laws, Flows}
 use Rattle.meaning.proofs.Relations.{Agree, Good, Rel}
 use Rattle.meaning.proofs.Levels.{flows_bottom, flows_zero, level_exp_code, mark_exp_mark, low_guard, low_exp, same_mark_exp}
 use Rattle.meaning.proofs.Steps.{Sim, Quiet, tick, mono, both, join}
-use Rattle.meaning.proofs.Frames.{assigned_below, or_false, read_guard, test_yes, test_no, good_guard, Frame, frame_trans, frame_guard}
+use Rattle.meaning.proofs.Frames.{assigned_below, read_guard, test_yes, test_no, good_guard, Frame, frame_trans, frame_guard}
 use Rattle.meaning.proofs.Private.{quiet, quiet_if, quiet_write}
 use Rattle.meaning.proofs.Pairs.{own_exp_same, open_figure, low_val, guard_at_lem, related_less, related_guard, related_assign, related_raise, related_private}
 
@@ -226,7 +227,7 @@ module _ (F : Interpretation) (L : Laws F) (rd : Value) (crd : IsMachineCode F r
       tb = toll (rewrite F N (suc D) B)
 
       ws : (named_has_while A ≡ false) × (named_has_while B ≡ false)
-      ws = or_false (named_has_while A) (named_has_while B) w
+      ws = or_parts (named_has_while A) (named_has_while B) w
 
       -- one run of a private if
       alone : (α0 α : Reg → Value) (u : Value) → Good F rd α0 α → IsMachineCode F u → ¬ Flows F rd u →

@@ -1,5 +1,6 @@
 -- One run: every release made hands over its opening figure, at a place whose guard level is 0.
 use Rattle.std.proofs.Common.{◌≡◌, ℕ, zero, suc, ◌+◌, ◌-◌, ◌<◌, ◌≤◌, Bool, true, false, cond, ◌||◌, eqb, List, [], ◌∷◌, length, sym, refl, ap, ◌∙◌, subst, arith}
+use Rattle.std.proofs.lemmas.Bool.{eq-eqb}
 use mathlib.Core.Bool.{false≢true}
 use Rattle.meaning.proofs.NamedCode.{Interpretation, Value, IsMachineCode, Exp, op, Reg, own, level, mark, guard, Code, cassign, cseq, cif, cwhile, bought, Row, rif, rstop, rnone, Laid, lay, Releasing, eval, next, after}
 use Rattle.meaning.proofs.Placed.{Placed}
@@ -14,7 +15,6 @@ use Rattle.meaning.proofs.Frames.{test_yes, test_no, good_assign, good_guard, go
 use Rattle.meaning.proofs.Pairs.{own_exp_same, open_figure}
 use Rattle.meaning.proofs.Laying.{placed, Noted, noted, has_at, at_end_lem}
 use Rattle.meaning.proofs.TwoRuns.{put, good, Opening}
-use Rattle.meaning.proofs.Equal.{eqb_same}
 
 module _ (F : Interpretation) where
   open F use {z, one, equal, apply, join_op, max_op, eq_op, lt_op}
@@ -83,7 +83,7 @@ module _ (F : Interpretation) where
       where
         go : (d : ℕ) → d < suc D → (b : Bool) → eqb D d ≡ b → IsMachineCode F (cond b v (ρ (guard d)))
         go d h true q = c
-        go d h false q = let apart : ¬ (D ≡ d) = λ x. false≢true (sym q ∙ ap (eqb D) (sym x) ∙ eqb_same D) in r.guards d (omega arith)
+        go d h false q = let apart : ¬ (D ≡ d) = λ x. false≢true (sym q ∙ ap (eqb D) (sym x) ∙ eq-eqb D D refl) in r.guards d (omega arith)
 
     ok_assign : {D : ℕ} {ρ : Reg → Value} (K : ℕ) (l v : Value) → IsMachineCode F l → Ok D ρ → Ok D (set F (own K) v (set F (mark K) one (set F (level K) l ρ)))
     ok_assign K l v c r = record { good = good_assign F L rd K l v c r.good; guards = r.guards }

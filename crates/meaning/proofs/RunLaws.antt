@@ -1,5 +1,6 @@
 -- What holds of every run: steps, settled standings, lines, values.
 use Rattle.std.proofs.Common.{◌≡◌, ℕ, zero, suc, ◌+◌, ◌<◌, ◌≤◌, Bool, true, false, cond, ◌||◌, ltb, List, [], ◌∷◌, length, take, drop, set, ℤ, Some, None, Option, sym, refl, ap, ◌∙◌, subst, ap₂, suc-add, zero-add, arith, w32, SFits}
+use Rattle.std.proofs.lemmas.Bool.{le-ltb}
 use mathlib.Core.Bool.{false≢true}
 use Rattle.values.proofs.Keeps as operator
 use Rattle.syntax.specs.Trees.{Expression, number, variable, apply, InRange}
@@ -194,7 +195,7 @@ module _ (G : Family) (reader budget : ℕ) (P : Script) where
       go false false p q e =
           let fit : s.kept ≤ length s.sheet = lib.Dec.nltb→le (length s.sheet) s.kept (rw q tt) in
           let after = lines_fit n s fit in
-          ap₂ ◌||◌ (ap (λ k. ltb k (variables P)) (bank_length n s) ∙ p) (ap (λ k. ltb k (Run n s).kept) (sheet_length n s) ∙ Rattle.meaning.proofs.Together.ltb_no (length s.sheet) (Run n s).kept after)
+          ap₂ ◌||◌ (ap (λ k. ltb k (variables P)) (bank_length n s) ∙ p) (ap (λ k. ltb k (Run n s).kept) (sheet_length n s) ∙ le-ltb (length s.sheet) (Run n s).kept after)
 
   go_adds : (n m : ℕ) (s : Progress) → gone G reader budget P m (gone G reader budget P n s) ≡ gone G reader budget P (n + m) s
   go_adds n m s = choose (too_short G reader budget P s) refl

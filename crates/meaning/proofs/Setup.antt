@@ -1,5 +1,6 @@
 -- What is known of a script that can be rewritten: its named form, and that the named rows and places are its rows and places.
 use Rattle.std.proofs.Common.{◌≡◌, ℕ, zero, suc, ◌+◌, ◌≤◌, true, false, ◌&&◌, eqb, List, [], ◌∷◌, ◌++◌, map, length, get_or, ℤ, pos, sym, refl, ap, ◌∙◌, subst, ap₂, arith, length-append}
+use Rattle.std.proofs.lemmas.Bool.{eq-eqb, and_parts}
 use mathlib.Core.Path.{fun_ext}
 use Rattle.syntax.specs.declared.form.Declaration.{Declaration}
 use Rattle.syntax.specs.Trees as tree
@@ -18,9 +19,8 @@ use Rattle.meaning.proofs.Interpretations.{machine, joiner_joins, Flows}
 use Rattle.meaning.proofs.Programs.{level_at_lem, named_first_rows, laid, program, plain, named_plain_rows}
 use Rattle.meaning.proofs.Numbers.{tree_row}
 use Rattle.meaning.proofs.Valid.{Below, Reads}
-use Rattle.meaning.proofs.Bridge.{exp_of, named_of, named_in, both_true, row_at_lem, rewritten-onto, bought_onto}
+use Rattle.meaning.proofs.Bridge.{exp_of, named_of, named_in, row_at_lem, rewritten-onto, bought_onto}
 use Rattle.meaning.proofs.BridgePlaces.{place_of, place_at_lem, script_places}
-use Rattle.meaning.proofs.Equal.{eqb_same}
 
 -- the declared levels, as values
 abbrev pub level_values : Script → List ℤ
@@ -40,12 +40,12 @@ level_value (x ∷ xs) (suc K) = level_value xs K
 
 all_codes_lem : (G : Family) (xs : List ℕ) → all_codes G xs ≡ true → All (IsMachineCode (machine G)) (map pos xs)
 all_codes_lem G [] h = tt
-all_codes_lem G (x ∷ xs) h = let hs = both_true G 0 (G.code x) (all_codes G xs) h in (hs.0, all_codes_lem G xs hs.1)
+all_codes_lem G (x ∷ xs) h = let hs = and_parts (G.code x) (all_codes G xs) h in (hs.0, all_codes_lem G xs hs.1)
 
 code_at : (G : Family) → FamilyLaws G → (xs : List ℕ) → all_codes G xs ≡ true → (K : ℕ) → IsCode G (get_or xs K 0)
 code_at G L [] h K = L.bottom
-code_at G L (x ∷ xs) h zero = (both_true G 0 (G.code x) (all_codes G xs) h).0
-code_at G L (x ∷ xs) h (suc K) = code_at G L xs (both_true G 0 (G.code x) (all_codes G xs) h).1 K
+code_at G L (x ∷ xs) h zero = (and_parts (G.code x) (all_codes G xs) h).0
+code_at G L (x ∷ xs) h (suc K) = code_at G L xs (and_parts (G.code x) (all_codes G xs) h).1 K
 
 -- ---- legal statements are well-formed by name
 
@@ -62,12 +62,12 @@ module _ (G : Family) (k : ℕ) where
     well_of (tree.release v e) h w = h.0
     well_of (tree.write t e) h w = w
     well_of (tree.stop n) h w = tt
-    well_of (tree.branch e A B) h w = let ws = both_true G 0 (writes_codes_in G A) (writes_codes_in G B) w in (well_in A h.1 ws.0, well_in B h.2 ws.1)
+    well_of (tree.branch e A B) h w = let ws = and_parts (writes_codes_in G A) (writes_codes_in G B) w in (well_in A h.1 ws.0, well_in B h.2 ws.1)
     well_of (tree.while e A) h w = well_in A h.1 w
 
     well_in : (l : Statements) → LegalStatements k l → writes_codes_in G l ≡ true → NamedWellFormed (IsMachineCode (machine G)) k (named_in l)
     well_in none h w = tt
-    well_in (then s l) h w = let ws = both_true G 0 (writes_codes G s) (writes_codes_in G l) w in (well_of s h.0 ws.0, well_in l h.1 ws.1)
+    well_in (then s l) h w = let ws = and_parts (writes_codes G s) (writes_codes_in G l) w in (well_of s h.0 ws.0, well_in l h.1 ws.1)
 
   mutual
     reads_of : (s : Statement) → LegalStatement k s → Reads k (named_of s)
@@ -177,7 +177,7 @@ module _ (G : Family) (L : FamilyLaws G) (s : Script) (wf : WellFormed s) (ok : 
 pub flows_family : (G : Family) → FamilyLaws G → (a reader : ℕ) → IsCode G a → IsCode G reader → Flows (machine G) (pos reader) (pos a) → flows G a reader ≡ true
 flows_family G L a reader ca cr f =
     let e : G.join a reader ≡ reader = same (sym (joiner_joins G L a reader ca cr) ∙ f) in
-    ap₂ (λ x y. (x && y) && eqb (G.join a reader) reader) ca cr ∙ ap (λ x. eqb x reader) e ∙ eqb_same reader
+    ap₂ (λ x y. (x && y) && eqb (G.join a reader) reader) ca cr ∙ ap (λ x. eqb x reader) e ∙ eq-eqb reader reader refl
   where
     same : {i j : ℕ} → pos i ≡ pos j → i ≡ j
     same e = cc

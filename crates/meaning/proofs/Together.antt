@@ -1,5 +1,6 @@
 -- Two runs under way that show the same give the same answers and keep the same lines.
 use Rattle.std.proofs.Common.{◌≡◌, ℕ, zero, suc, ◌<◌, ◌≤◌, Bool, true, false, cond, ◌||◌, ltb, leb, List, [], ◌∷◌, ◌++◌, length, take, ℤ, Some, None, Option, sym, refl, ap, ◌∙◌, subst, ap₂, arith, ltb→lt, length-set, take-suc-set}
+use Rattle.std.proofs.lemmas.Bool.{le-ltb}
 use mathlib.Core.Bool.{false≢true}
 use lib.Dec.{nleb→lt}
 use Rattle.syntax.specs.Form.{TreeRow, skips, assigns, releases, writes, stops, branches, leaves, closes, repeats, goes_back}
@@ -70,23 +71,13 @@ going_room budget (printed x) k size n e = go (leb size k) refl e
 going_room budget no_row k size n e = tt
 going_room budget (stopped j) k size n e = tt
 
-pub ltb_no : (m n : ℕ) → n ≤ m → ltb m n ≡ false
-ltb_no m n h = go (ltb m n) refl
-  where
-    go : (b : Bool) → ltb m n ≡ b → ltb m n ≡ false
-    go true q = let k : m < n = ltb→lt m n (rw q tt) in absurd (clash k)
-      where
-        clash : m < n → ⊥
-        clash k = omega arith
-    go false q = q
-
 module _ (G : Family) (reader budget : ℕ) (P : Script) where
   -- where bank and sheet are long enough nothing is refused
   pub long_enough : (s : Progress) → variables P ≤ length s.bank → s.kept ≤ length s.sheet → too_short G reader budget P s ≡ false
-  long_enough s h k = ap₂ ◌||◌ (ltb_no (length s.bank) (variables P) h) (ltb_no (length s.sheet) s.kept k)
+  long_enough s h k = ap₂ ◌||◌ (le-ltb (length s.bank) (variables P) h) (le-ltb (length s.sheet) s.kept k)
 
   pub has_registers : (bank : List ℤ) → variables P ≤ length bank → lacks_registers P bank ≡ false
-  has_registers bank h = ltb_no (length bank) (variables P) h
+  has_registers bank h = le-ltb (length bank) (variables P) h
 
   -- two runs, opened on the registers b0 and c0, that will go on alike
   module _ (b0 c0 : List ℤ) where

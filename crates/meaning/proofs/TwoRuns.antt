@@ -1,5 +1,6 @@
 -- The theorem on two runs of a whole rewritten program.
 use Rattle.std.proofs.Common.{◌≡◌, ℕ, zero, suc, ◌+◌, ◌<◌, Bool, true, false, cond, List, [], ◌∷◌, length, sym, refl, ap, ◌∙◌, subst, inl, inr, arith}
+use Rattle.std.proofs.lemmas.Bool.{ne_eqb, eq-eqb}
 use mathlib.Core.Bool.{false≢true}
 use Rattle.meaning.proofs.NamedCode.{Interpretation, Value, IsMachineCode, Reg, own, level, mark, Code, cseq, Row, rnone, lay, after}
 use Rattle.meaning.proofs.Placed.{Placed}
@@ -10,7 +11,6 @@ use Rattle.meaning.proofs.Relations.{Agree, Good, Rel, Same}
 use Rattle.meaning.specs.Confinement.{All}
 use Rattle.meaning.proofs.Programs.{at, level_at_lem, named_first_rows, program}
 use Rattle.meaning.proofs.Steps.{Sim, tick, both}
-use Rattle.meaning.proofs.Equal.{eqb_no, eqb_same}
 use Rattle.meaning.proofs.Laying.{placed, has_at, at_end_lem}
 use Rattle.meaning.proofs.Public.{main}
 
@@ -47,17 +47,17 @@ module _ (F : Interpretation) (L : Laws F) (rd : Value) (crd : IsMachineCode F r
   -- below the first that is set nothing changes
   put_below : (K : ℕ) (ls : List Value) (ρ : Reg → Value) (j : ℕ) → j < K → put F K ls ρ (level j) ≡ ρ (level j)
   put_below K [] ρ j h = refl
-  put_below K (l ∷ ls) ρ j h = put_below (suc K) ls (set F (level K) l ρ) j (omega arith) ∙ ap (λ b. cond b l (ρ (level j))) (eqb_no K j (omega arith))
+  put_below K (l ∷ ls) ρ j h = put_below (suc K) ls (set F (level K) l ρ) j (omega arith) ∙ ap (λ b. cond b l (ρ (level j))) (ne_eqb K j (omega arith))
 
   put_lev : (K : ℕ) (ls : List Value) (ρ : Reg → Value) (j : ℕ) → ((i : ℕ) → ρ (level (K + i)) ≡ z) → put F K ls ρ (level (K + j)) ≡ level_at_lem z ls j
   put_lev K [] ρ j h = h j
   put_lev K (l ∷ ls) ρ zero h = subst (λ i. put F (suc K) ls (set F (level K) l ρ) (level i) ≡ l) k0
-      (put_below (suc K) ls (set F (level K) l ρ) K (omega arith) ∙ ap (λ b. cond b l (ρ (level K))) (eqb_same K))
+      (put_below (suc K) ls (set F (level K) l ρ) K (omega arith) ∙ ap (λ b. cond b l (ρ (level K))) (eq-eqb K K refl))
     where
       k0 : K ≡ K + 0
       k0 = omega arith
   put_lev K (l ∷ ls) ρ (suc j) h = subst (λ i. put F (suc K) ls (set F (level K) l ρ) (level i) ≡ level_at_lem z ls j) (step j)
-      (put_lev (suc K) ls (set F (level K) l ρ) j (λ i. ap (λ b. cond b l (ρ (level (suc K + i)))) (eqb_no K (suc K + i) (omega arith)) ∙ ap (λ x. ρ (level x)) (step i) ∙ h (suc i)))
+      (put_lev (suc K) ls (set F (level K) l ρ) j (λ i. ap (λ b. cond b l (ρ (level (suc K + i)))) (ne_eqb K (suc K + i) (omega arith)) ∙ ap (λ x. ρ (level x)) (step i) ∙ h (suc i)))
     where
       step : (i : ℕ) → suc K + i ≡ K + suc i
       step i = omega arith

@@ -1,24 +1,22 @@
 -- The rows of a rewritten script, and of a script as bought, use the registers that they have, and numbers of the language.
 use Rattle.std.proofs.Common.{◌≡◌, ℕ, zero, suc, ◌+◌, ◌<◌, ◌≤◌, Bool, true, false, cond, ◌||◌, eqb, List, [], ◌∷◌, ◌++◌, length, ℤ, pos, negsuc, sym, refl, ap, ◌∙◌, arith, eqb→eq}
+use Rattle.std.proofs.lemmas.Bool.{ne_eqb}
 use mathlib.Core.Bool.{false≢true}
 use native.Mathlib.Decide.{dec_lt}
 use Rattle.meaning.specs.Families.{Family}
 use Rattle.meaning.specs.Machine.{register}
 use Rattle.meaning.specs.Confinement.{All}
+use Rattle.meaning.proofs.Alone.{all_join}
+use Rattle.std.proofs.lemmas.Bool.Decides.{nat_tests}
 use Rattle.meaning.proofs.NamedCode.{Interpretation, Value, IsMachineCode, Exp, num, var, op, Reg, own, level, mark, guard, Code, cnil, cskip, cassign, crelease, cwrite, cstop, cseq, cif, cwhile, Laid, lay, inside, natural}
 use Rattle.meaning.proofs.NamedRules.{Script, nil, skip, assign, release, write, seq, if, while, named_has_while, assigns, rising, NamedWellFormed, pads, own_exp, level_exp, mark_exp, guard_exp, raise, branch, rewrite}
 use Rattle.meaning.proofs.Registers.{same_reg}
 use Rattle.meaning.proofs.Interpretations.{machine}
 use Rattle.meaning.proofs.Programs.{at, named_first_rows, program, plain, named_plain_rows, nesting}
 use Rattle.meaning.proofs.Numbers.{register_number, ValidE, ValidR, Match}
-use Rattle.meaning.proofs.Equal.{eqb_no, eqb_same}
 
 eqb_cong : (a b c d : ℕ) → (a ≡ b → c ≡ d) → (c ≡ d → a ≡ b) → eqb a b ≡ eqb c d
-eqb_cong a b c d f g = go (eqb a b) refl
-  where
-    go : (x : Bool) → eqb a b ≡ x → eqb a b ≡ eqb c d
-    go true q = q ∙ sym (eqb_same c) ∙ ap (eqb c) (f (eqb→eq a b (rw q tt)))
-    go false q = q ∙ sym (eqb_no c d (λ e. false≢true (sym q ∙ ap (eqb a) (sym (g e)) ∙ eqb_same a)))
+eqb_cong a b c d f g = grind (arith, nat_tests)
 
 -- the registers of a rewritten script of n variables, nested H deep
 abbrev pub RewrittenRegister : ℕ → ℕ → Reg → Type 0
@@ -29,20 +27,20 @@ RewrittenRegister n H (guard d) = d < H
 
 pub rewritten_apart : (n H : ℕ) (r q : Reg) → RewrittenRegister n H r → RewrittenRegister n H q → eqb (register_number n r) (register_number n q) ≡ same_reg r q
 rewritten_apart n H (own i) (own j) v w = refl
-rewritten_apart n H (own i) (level j) v w = eqb_no _ _ (omega arith)
-rewritten_apart n H (own i) (mark j) v w = eqb_no _ _ (omega arith)
-rewritten_apart n H (own i) (guard j) v w = eqb_no _ _ (omega arith)
-rewritten_apart n H (level i) (own j) v w = eqb_no _ _ (omega arith)
+rewritten_apart n H (own i) (level j) v w = ne_eqb _ _ (omega arith)
+rewritten_apart n H (own i) (mark j) v w = ne_eqb _ _ (omega arith)
+rewritten_apart n H (own i) (guard j) v w = ne_eqb _ _ (omega arith)
+rewritten_apart n H (level i) (own j) v w = ne_eqb _ _ (omega arith)
 rewritten_apart n H (level i) (level j) v w = eqb_cong _ _ i j (omega arith) (omega arith)
-rewritten_apart n H (level i) (mark j) v w = eqb_no _ _ (omega arith)
-rewritten_apart n H (level i) (guard j) v w = eqb_no _ _ (omega arith)
-rewritten_apart n H (mark i) (own j) v w = eqb_no _ _ (omega arith)
-rewritten_apart n H (mark i) (level j) v w = eqb_no _ _ (omega arith)
+rewritten_apart n H (level i) (mark j) v w = ne_eqb _ _ (omega arith)
+rewritten_apart n H (level i) (guard j) v w = ne_eqb _ _ (omega arith)
+rewritten_apart n H (mark i) (own j) v w = ne_eqb _ _ (omega arith)
+rewritten_apart n H (mark i) (level j) v w = ne_eqb _ _ (omega arith)
 rewritten_apart n H (mark i) (mark j) v w = eqb_cong _ _ i j (omega arith) (omega arith)
-rewritten_apart n H (mark i) (guard j) v w = eqb_no _ _ (omega arith)
-rewritten_apart n H (guard i) (own j) v w = eqb_no _ _ (omega arith)
-rewritten_apart n H (guard i) (level j) v w = eqb_no _ _ (omega arith)
-rewritten_apart n H (guard i) (mark j) v w = eqb_no _ _ (omega arith)
+rewritten_apart n H (mark i) (guard j) v w = ne_eqb _ _ (omega arith)
+rewritten_apart n H (guard i) (own j) v w = ne_eqb _ _ (omega arith)
+rewritten_apart n H (guard i) (level j) v w = ne_eqb _ _ (omega arith)
+rewritten_apart n H (guard i) (mark j) v w = ne_eqb _ _ (omega arith)
 rewritten_apart n H (guard i) (guard j) v w = eqb_cong _ _ i j (omega arith) (omega arith)
 
 -- the registers of a script as bought
@@ -77,10 +75,6 @@ Reads n (seq A B) = Reads n A × Reads n B
 Reads n (if e A B) = Below n e × Reads n A × Reads n B
 Reads n (while e A) = Below n e × Reads n A
 
-pub all_append : {A : Type 0} (P : A → Type 0) (l m : List A) → All P l → All P m → All P (l ++ m)
-all_append P [] m a b = b
-all_append P (x ∷ l) m a b = (a.0, all_append P l m a.1 b)
-
 -- a code is a natural number
 pub code-natural : (G : Family) (t : Value) → IsMachineCode (machine G) t → t ≡ pos (natural t)
 code-natural G (pos k) c = refl
@@ -111,9 +105,9 @@ module _ (n : ℕ) (V : Reg → Type 0) (apart : (r q : Reg) → V r → V q →
   lay_valid D b (crelease r e) v = (v, tt)
   lay_valid D b (cwrite t e) v = (v, tt)
   lay_valid D b (cstop k) v = (tt, tt)
-  lay_valid D b (cseq A B) v = all_append ValidL (lay D b A) _ (lay_valid D b A v.0) (lay_valid D _ B v.1)
-  lay_valid D b (cif x e A B) v = (v.0, all_append ValidL (lay (inside x D) (suc b) A) _ (lay_valid _ _ A v.1) (tt, all_append ValidL (lay (inside x D) _ B) _ (lay_valid _ _ B v.2) (tt, tt)))
-  lay_valid D b (cwhile e A) v = (v.0, all_append ValidL (lay (suc D) (suc b) A) _ (lay_valid _ _ A v.1) (tt, tt))
+  lay_valid D b (cseq A B) v = all_join ValidL (lay D b A) _ (lay_valid D b A v.0) (lay_valid D _ B v.1)
+  lay_valid D b (cif x e A B) v = (v.0, all_join ValidL (lay (inside x D) (suc b) A) _ (lay_valid _ _ A v.1) (tt, all_join ValidL (lay (inside x D) _ B) _ (lay_valid _ _ B v.2) (tt, tt)))
+  lay_valid D b (cwhile e A) v = (v.0, all_join ValidL (lay (suc D) (suc b) A) _ (lay_valid _ _ A v.1) (tt, tt))
 
   at_valid : (l : List (Laid Reg)) → All ValidL l → (p : ℕ) → ValidL (at l p)
   at_valid [] a p = tt
@@ -139,7 +133,7 @@ module _ (n H : ℕ) (G : Family) where
 
   rising_below : (m : ℕ) → m ≤ n → (p : ℕ → Bool) → All (λ k. k < n) (rising m p)
   rising_below zero h p = tt
-  rising_below (suc m) h p = all_append (λ k. k < n) (rising m p) _ (rising_below m (omega arith) p) (last (p m))
+  rising_below (suc m) h p = all_join (λ k. k < n) (rising m p) _ (rising_below m (omega arith) p) (last (p m))
     where
       last : (b : Bool) → All (λ k. k < n) (cond b (m ∷ []) [])
       last true = (h, tt)
