@@ -34,10 +34,7 @@ use Rattle.meaning.proofs.Alone.{all_split}
 -- `open` clears the variables' registers
 pub cleared_zero : (n : ℕ) (bank : List ℤ) (i : ℕ) → i < n → register (cleared n bank) i ≡ pos 0
 unfolding cleared
-cleared_zero zero bank i h = absurd (no_such i h)
-  where
-    no_such : (i : ℕ) → i < 0 → ⊥
-    no_such i h = omega arith
+cleared_zero zero bank i h = absurd (omega arith)
 cleared_zero (suc n) [] i h = refl
 cleared_zero (suc n) (v ∷ bank) zero h = refl
 cleared_zero (suc n) (v ∷ bank) (suc i) h = cleared_zero n bank i (omega arith)

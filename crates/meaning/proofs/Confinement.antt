@@ -1,4 +1,5 @@
 -- Rewritten scripts are confined.
+use Rattle.std.proofs.lemmas.Option.{none-some}
 use Rattle.std.proofs.Common.{◌≡◌, ℕ, suc, ◌+◌, ◌<◌, ◌≤◌, Bool, true, false, cond, ◌&&◌, ltb, List, [], ◌∷◌, length, ℤ, pos, Some, None, sym, refl, ap, ◌∙◌, subst, arith, nltb→le}
 use native.Mathlib.Decide.{dec_lt}
 use Rattle.refusals.specs.declared.Reason.TheVariants as reason
@@ -42,18 +43,9 @@ open_tells G P reader bank e = go (G.code reader) refl (all_codes G (levels_of P
     go : (a : Bool) → G.code reader ≡ a → (b c : Bool) → ltb (length bank) (variables P) ≡ c →
         cond (a && b) (cond c (Some (refusal reason.BankTooSmall)) None) (Some (refusal reason.NotACode)) ≡ None → IsCode G reader × (variables P ≤ length bank)
     go true x true false y h = (x, nltb→le (length bank) (variables P) (rw y tt))
-    go true x true true y h = absurd (some_none h)
-      where
-        some_none : Some (refusal reason.BankTooSmall) ≡ None → ⊥
-        some_none q = let z : ◌≡◌ {A = ℕ} 0 1 = cc in omega arith
-    go true x false c y h = absurd (some_none h)
-      where
-        some_none : Some (refusal reason.NotACode) ≡ None → ⊥
-        some_none q = let z : ◌≡◌ {A = ℕ} 0 1 = cc in omega arith
-    go false x b c y h = absurd (some_none h)
-      where
-        some_none : Some (refusal reason.NotACode) ≡ None → ⊥
-        some_none q = let z : ◌≡◌ {A = ℕ} 0 1 = cc in omega arith
+    go true x true true y h = absurd (none-some _ (sym h))
+    go true x false c y h = absurd (none-some _ (sym h))
+    go false x b c y h = absurd (none-some _ (sym h))
 
 -- ---- entries
 

@@ -1,5 +1,6 @@
 -- Runs that end: what the calls of one run say about its rows, and the other way round.
 use Rattle.std.proofs.Common.{◌≡◌, ℕ, zero, suc, ◌+◌, ◌<◌, ◌≤◌, Bool, true, false, cond, leb, ◌⊎◌, List, [], ◌∷◌, ◌++◌, length, take, ℤ, Some, None, Option, sym, refl, ap, ◌∙◌, subst, ap₂, inl, inr, append_assoc, append-nil, add-zero, zero-add, arith, leb→le, length-append, length-take, take-suc-set}
+use Rattle.std.proofs.lemmas.Bool.Decides.{nat_tests}
 use Rattle.std.proofs.lemmas.Bool.{lt-leb}
 use mathlib.Core.Bool.{false≢true}
 use lib.Dec.{nleb→lt}
@@ -101,21 +102,13 @@ module _ (budget : ℕ) where
 
   -- where there is more to do the budget is not spent
   more_left : (n : ℕ) → is_going (cond (leb budget n) BudgetSpent MoreToDo) ≡ true → n < budget
-  more_left n e = go (leb budget n) refl e
-    where
-      go : (b : Bool) → leb budget n ≡ b → is_going (cond b BudgetSpent MoreToDo) ≡ true → n < budget
-      go true q f = absurd (false≢true f)
-      go false q f = nleb→lt budget n (rw q tt)
+  more_left n e = grind (arith, nat_tests)
 
   pub judge-more : (o : Shown) (k size n : ℕ) → is_going (judge budget o k size n) ≡ true → n < budget
   judge-more no_row k size n e = absurd (false≢true e)
   judge-more silent k size n e = more_left n e
   judge-more (stopped j) k size n e = more_left n e
-  judge-more (printed l) k size n e = go (leb size k) e
-    where
-      go : (a : Bool) → is_going (cond a SheetFull (cond (leb budget n) BudgetSpent MoreToDo)) ≡ true → n < budget
-      go true f = absurd (false≢true f)
-      go false f = more_left n f
+  judge-more (printed l) k size n e = grind (arith, nat_tests)
 
   goes_or_stops : (o : Shown) (k size n : ℕ) → is_going (judge budget o k size n) ≡ true → IsStopped (standing_after o) ⊎ Goes o
   goes_or_stops no_row k size n e = absurd (false≢true e)
@@ -140,20 +133,20 @@ module _ (budget : ℕ) where
 
     -- a row shows more than that there is none
     is_row : (r : TreeRow) → shows G reader (Some r) regs ≡ no_row → ⊥
-    is_row skips e = let x : ◌≡◌ {A = ℕ} 0 1 = cc in omega arith
-    is_row (assigns v e) h = let x : ◌≡◌ {A = ℕ} 0 1 = cc in omega arith
-    is_row (releases v e) h = let x : ◌≡◌ {A = ℕ} 0 1 = cc in omega arith
+    is_row skips e = grind arith
+    is_row (assigns v e) h = grind arith
+    is_row (releases v e) h = grind arith
     is_row (writes t e) h = go (flows G t reader) h
       where
         go : (b : Bool) → cond b (printed (line_of t (value_of regs e))) silent ≡ no_row → ⊥
-        go true q = let x : ◌≡◌ {A = ℕ} 0 1 = cc in omega arith
-        go false q = let x : ◌≡◌ {A = ℕ} 0 1 = cc in omega arith
-    is_row (stops n) h = let x : ◌≡◌ {A = ℕ} 0 1 = cc in omega arith
-    is_row (branches e m) h = let x : ◌≡◌ {A = ℕ} 0 1 = cc in omega arith
-    is_row (leaves m) h = let x : ◌≡◌ {A = ℕ} 0 1 = cc in omega arith
-    is_row closes h = let x : ◌≡◌ {A = ℕ} 0 1 = cc in omega arith
-    is_row (repeats e m) h = let x : ◌≡◌ {A = ℕ} 0 1 = cc in omega arith
-    is_row (goes_back m) h = let x : ◌≡◌ {A = ℕ} 0 1 = cc in omega arith
+        go true q = grind arith
+        go false q = grind arith
+    is_row (stops n) h = grind arith
+    is_row (branches e m) h = grind arith
+    is_row (leaves m) h = grind arith
+    is_row closes h = grind arith
+    is_row (repeats e m) h = grind arith
+    is_row (goes_back m) h = grind arith
 
     start_over : (r : Option TreeRow) → shows G reader r regs ≡ no_row → judge_start budget r ≡ Ended
     start_over None e = refl
@@ -364,10 +357,7 @@ module _ (G : Family) (reader budget : ℕ) (P : Script) where
       go : (b : Bool) → is_going (judged G reader budget P s).standing ≡ b → b ≡ false
       go true q =
           let more = judge-more budget (ahead G reader budget P s) s.kept (length s.sheet) s.steps (going_settle s.standing _ q) in
-          absurd (clash s.steps more h)
-        where
-          clash : (k : ℕ) → k < budget → budget ≤ k + 0 → ⊥
-          clash k x y = omega arith
+          absurd (omega arith)
       go false q = refl
   settles (suc n) s h = go (is_going (judged G reader budget P s).standing) refl (settles n (step G reader budget P (judged G reader budget P s)) (count s.steps h))
     where

@@ -27,10 +27,7 @@ rising_none (suc n) p K h = mem-append K (rising n p) _ ∙ ap (λ b. b || mem K
 
 -- .. and all of that below n
 pub rising-all : (n : ℕ) (p : ℕ → Bool) (K : ℕ) → K < n → p K ≡ true → mem K (rising n p) ≡ true
-rising-all zero p K l h = absurd (impossible l)
-  where
-    impossible : K < 0 → ⊥
-    impossible x = omega arith
+rising-all zero p K l h = absurd (omega arith)
 rising-all (suc n) p K l h = mem-append K (rising n p) _ ∙ last (eqb n K) refl (λ x. rising-all n p K x h)
   where
     last : (b : Bool) → eqb n K ≡ b → (K < n → mem K (rising n p) ≡ true) → (mem K (rising n p) || mem K (cond (p n) (n ∷ []) [])) ≡ true

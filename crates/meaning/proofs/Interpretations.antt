@@ -6,6 +6,7 @@ use Rattle.values.specs.declared.Operator.TheVariants.{Equal, Less, Maximum}
 use Rattle.std.specs.Ordering.{int_eq}
 use Rattle.std.proofs.lemmas.Cmp.{int_eq_equiv}
 use Rattle.std.proofs.lemmas.Bool.Decides.{Decides-int_eq, nat_tests}
+use Rattle.std.proofs.lemmas.Int.{ints}
 use Rattle.values.specs.Operators.{operate, operator_numbered, truth}
 use Rattle.values.proofs.Keeps.{laws}
 use Rattle.meaning.specs.Families as spec
@@ -89,14 +90,8 @@ max_pos : (i j : ℕ) → operate Maximum (pos i) (pos j) ≡ pos (max i j)
 max_pos = laws.maximum_natural
 
 max_none_pos : (i : ℕ) (q : ℤ) → (q ≡ pos 0) ⊎ (q ≡ pos 1) → operate Maximum (pos i) q ≡ pos 0 → (pos i ≡ pos 0) × (q ≡ pos 0)
-max_none_pos i q (inl h) e = let k : pos (max i 0) ≡ pos 0 = sym (max_pos i 0) ∙ ap (operate Maximum (pos i)) (sym h) ∙ e in (ap pos (none i (cc)), h)
-  where
-    none : (n : ℕ) → max n 0 ≡ 0 → n ≡ 0
-    none n x = omega arith
-max_none_pos i q (inr h) e = let k : pos (max i 1) ≡ pos 0 = sym (max_pos i 1) ∙ ap (operate Maximum (pos i)) (sym h) ∙ e in absurd (clash i (cc))
-  where
-    clash : (n : ℕ) → max n 1 ≡ 0 → ⊥
-    clash n x = omega arith
+max_none_pos i q (inl h) e = let k : pos (max i 0) ≡ pos 0 = sym (max_pos i 0) ∙ ap (operate Maximum (pos i)) (sym h) ∙ e in (omega (arith, ints), h)
+max_none_pos i q (inr h) e = let k : pos (max i 1) ≡ pos 0 = sym (max_pos i 1) ∙ ap (operate Maximum (pos i)) (sym h) ∙ e in absurd (omega (arith, ints))
 
 less_zero : (n : ℕ) → operate Less (pos 0) (pos n) ≡ cond (int_eq (pos n) (pos 0)) (pos 0) (pos 1)
 less_zero n = grind (arith, nat_tests)

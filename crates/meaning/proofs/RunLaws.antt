@@ -1,6 +1,7 @@
 -- What holds of every run: steps, settled standings, lines, values.
 use Rattle.std.proofs.Common.{◌≡◌, ℕ, zero, suc, ◌+◌, ◌<◌, ◌≤◌, Bool, true, false, cond, ◌||◌, ltb, List, [], ◌∷◌, length, take, drop, set, ℤ, Some, None, Option, sym, refl, ap, ◌∙◌, subst, ap₂, suc-add, zero-add, arith, w32, SFits}
-use Rattle.std.proofs.lemmas.Bool.{le-ltb}
+use Rattle.std.proofs.lemmas.Bool.{le-ltb, ltb-false, or_parts}
+use Rattle.std.proofs.lemmas.List.{take-set-le, drop-set-lt}
 use mathlib.Core.Bool.{false≢true}
 use Rattle.values.proofs.Keeps as operator
 use Rattle.syntax.specs.Trees.{Expression, number, variable, apply, InRange}
@@ -48,36 +49,13 @@ standing_as s a = record { row = s.row; bank = s.bank; sheet = s.sheet; kept = s
 
 sheet_front : (o : Shown) (k : ℕ) (l : List Line) (m : ℕ) → m ≤ k → take m (sheet_after o k l) ≡ take m l
 sheet_front silent k l m h = refl
-sheet_front (printed x) k l m h = front l k m h
-  where
-    front : (l : List Line) (k m : ℕ) → m ≤ k → take m (set l k x) ≡ take m l
-    front [] k m h = refl
-    front (y ∷ l) zero zero h = refl
-    front (y ∷ l) zero (suc m) h = absurd (no h)
-      where
-        no : suc m ≤ 0 → ⊥
-        no q = omega arith
-    front (y ∷ l) (suc k) zero h = refl
-    front (y ∷ l) (suc k) (suc m) h = ap (λ r. y ∷ r) (front l k m (omega arith))
+sheet_front (printed x) k l m h = take-set-le m l k x h
 sheet_front no_row k l m h = refl
 sheet_front (stopped n) k l m h = refl
 
 sheet_back : (o : Shown) (k : ℕ) (l : List Line) (m : ℕ) → kept_after o k ≤ m → drop m (sheet_after o k l) ≡ drop m l
 sheet_back silent k l m h = refl
-sheet_back (printed x) k l m h = back l k m h
-  where
-    back : (l : List Line) (k m : ℕ) → k < m → drop m (set l k x) ≡ drop m l
-    back [] k m h = refl
-    back (y ∷ l) zero zero h = absurd (no h)
-      where
-        no : 0 < 0 → ⊥
-        no q = omega arith
-    back (y ∷ l) zero (suc m) h = refl
-    back (y ∷ l) (suc k) zero h = absurd (no h)
-      where
-        no : suc k < 0 → ⊥
-        no q = omega arith
-    back (y ∷ l) (suc k) (suc m) h = back l k m (omega arith)
+sheet_back (printed x) k l m h = drop-set-lt m l k x h
 sheet_back no_row k l m h = refl
 sheet_back (stopped n) k l m h = refl
 
@@ -187,15 +165,10 @@ module _ (G : Family) (reader budget : ℕ) (P : Script) where
       )) n s (refl, h)).1
 
   short_after : (n : ℕ) (s : Progress) → too_short G reader budget P s ≡ false → too_short G reader budget P (Run n s) ≡ false
-  short_after n s h = go (ltb (length s.bank) (variables P)) (ltb (length s.sheet) s.kept) refl refl h
-    where
-      go : (a b : Bool) → ltb (length s.bank) (variables P) ≡ a → ltb (length s.sheet) s.kept ≡ b → (a || b) ≡ false → too_short G reader budget P (Run n s) ≡ false
-      go true b p q e = absurd (false≢true (sym e))
-      go false true p q e = absurd (false≢true (sym e))
-      go false false p q e =
-          let fit : s.kept ≤ length s.sheet = lib.Dec.nltb→le (length s.sheet) s.kept (rw q tt) in
-          let after = lines_fit n s fit in
-          ap₂ ◌||◌ (ap (λ k. ltb k (variables P)) (bank_length n s) ∙ p) (ap (λ k. ltb k (Run n s).kept) (sheet_length n s) ∙ le-ltb (length s.sheet) (Run n s).kept after)
+  short_after n s h =
+      let p = or_parts (ltb (length s.bank) (variables P)) (ltb (length s.sheet) s.kept) h in
+      let after = lines_fit n s (ltb-false (length s.sheet) s.kept p.1) in
+      ap₂ ◌||◌ (ap (λ k. ltb k (variables P)) (bank_length n s) ∙ p.0) (ap (λ k. ltb k (Run n s).kept) (sheet_length n s) ∙ le-ltb (length s.sheet) (Run n s).kept after)
 
   go_adds : (n m : ℕ) (s : Progress) → gone G reader budget P m (gone G reader budget P n s) ≡ gone G reader budget P (n + m) s
   go_adds n m s = choose (too_short G reader budget P s) refl
@@ -226,10 +199,7 @@ module _ (G : Family) (reader budget : ℕ) (P : Script) where
       go false h = omega arith
 
   fewer_settles : (n : ℕ) (s : Progress) → length (Taken n s) < n → is_going (Run n s).standing ≡ false
-  fewer_settles zero s h = absurd (no h)
-    where
-      no : 0 < 0 → ⊥
-      no q = omega arith
+  fewer_settles zero s h = absurd (omega arith)
   fewer_settles (suc n) s h = go (is_going (Judged s).standing) refl h (fewer_settles n (Step (Judged s)))
     where
       go : (b : Bool) → is_going (Judged s).standing ≡ b → length (cond b (Judged s ∷ Taken n (Step (Judged s))) []) < suc n →

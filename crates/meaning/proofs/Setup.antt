@@ -104,10 +104,7 @@ enterable_same G s = enterable-append s.declarations _
 
 beyond : (ds : List Declaration) (K : ℕ) → length ds ≤ K → enterable_at ds K ≡ false
 beyond [] K h = refl
-beyond (d ∷ ds) zero h = absurd (clash h)
-  where
-    clash : suc (length ds) ≤ 0 → ⊥
-    clash x = omega arith
+beyond (d ∷ ds) zero h = absurd (omega arith)
 beyond (d ∷ ds) (suc K) h = beyond ds K (omega arith)
 
 pub not_enterable : (G : Family) (s : Script) (K : ℕ) → variables s ≤ K → enterable (rewritten G s) K ≡ false

@@ -1,5 +1,6 @@
 -- Two runs under way that show the same give the same answers and keep the same lines.
 use Rattle.std.proofs.Common.{◌≡◌, ℕ, zero, suc, ◌<◌, ◌≤◌, Bool, true, false, cond, ◌||◌, ltb, leb, List, [], ◌∷◌, ◌++◌, length, take, ℤ, Some, None, Option, sym, refl, ap, ◌∙◌, subst, ap₂, arith, ltb→lt, length-set, take-suc-set}
+use Rattle.std.proofs.lemmas.Bool.Decides.{nat_tests}
 use Rattle.std.proofs.lemmas.Bool.{le-ltb}
 use mathlib.Core.Bool.{false≢true}
 use lib.Dec.{nleb→lt}
@@ -63,11 +64,7 @@ kept_room (stopped n) k size h r = h
 
 pub going_room : (budget : ℕ) (o : Shown) (k size n : ℕ) → is_going (judge budget o k size n) ≡ true → Room o k size
 going_room budget silent k size n e = tt
-going_room budget (printed x) k size n e = go (leb size k) refl e
-  where
-    go : (b : Bool) → leb size k ≡ b → is_going (cond b SheetFull (cond (leb budget n) BudgetSpent MoreToDo)) ≡ true → k < size
-    go true q f = absurd (false≢true f)
-    go false q f = nleb→lt size k (rw q tt)
+going_room budget (printed x) k size n e = grind (arith, nat_tests)
 going_room budget no_row k size n e = tt
 going_room budget (stopped j) k size n e = tt
 

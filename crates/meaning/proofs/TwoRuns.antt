@@ -115,8 +115,5 @@ module _ (F : Interpretation) (L : Laws F) (rd : Value) (crd : IsMachineCode F r
         good1 = good ls cl ρ oρ;
         good2 = good ls cl σ oσ;
         low = record { vals = λ j. vals j (equal (apply join_op (level_at_lem z ls j) rd) rd) refl; tags = λ j. put_mark 0 ls ρ j ∙ oρ.1 j ∙ sym (oσ.1 j) ∙ sym (put_mark 0 ls σ j) };
-        guards = λ d h. absurd (impossible d h);
+        guards = λ d h. absurd (omega arith);
       }
-        where
-          impossible : (d : ℕ) → d < 0 → ⊥
-          impossible d h = omega arith
