@@ -116,9 +116,6 @@ module _ (F : Interpretation) (rd : Value) where
     own_set : (ρ τ : Reg → Value) (K : ℕ) {v w : Value} → v ≡ w → Own ρ τ → Own (set F (own K) v ρ) (set F (own K) w τ)
     own_set ρ τ K {v} {w} e h j = ap₂ (λ x y. cond (eqb K j) x y) e (h j)
 
-    no_such : (n : ℕ) → n < 0 → ⊥
-    no_such n h = omega arith
-
     goes_cond : (b : Bool) (x : Line) → Goes (cond b (printed x) silent)
     goes_cond true x = tt
     goes_cond false x = tt
@@ -171,7 +168,7 @@ module _ (F : Interpretation) (rd : Value) where
         Placed rows b (cwhile (own_exp F e) (cseq A (cseq (cassign (guard D) x) (stop_check_lem F D 2)))) → Placed bought_rows c (cwhile (own_exp F e) A') →
         ((j : ℕ) → TS j (after (suc b) A) (after (suc c) A') → TS j (suc b) (suc c)) →
         (k : ℕ) → TS k (after b (cwhile (own_exp F e) (cseq A (cseq (cassign (guard D) x) (stop_check_lem F D 2))))) (after c (cwhile (own_exp F e) A')) → TS k b c
-    t_loop D b c e x A A' p q ha zero s ρ τ h = record { to = λ n h. absurd (no_such n h) }
+    t_loop D b c e x A A' p q ha zero s ρ τ h = record { to = λ n h. absurd (omega arith) }
     t_loop D b c e x A A' p q ha (suc k) s ρ τ h =
         let again : TS k b c = t_loop D b c e x A A' p q ha k (λ ρ' τ' h'. less (s ρ' τ' h')) in
         pair p.head q.head tt refl

@@ -3,7 +3,7 @@
 -- `named_in` turns a list of statements into a sequence of two parts. `onto` puts numbers for the names of code again, in front of a rest. The rows of
 -- what `onto` gives are the rows that the code is laid out to, with numbers for names; and what `onto` gives of the named rewriting is the
 -- rewriting of the rules. So row p of the rewritten script is row p of the named one, and likewise for the script as bought and for the places.
-use Rattle.std.proofs.Common.{◌≡◌, ℕ, zero, suc, ◌+◌, ◌-◌, max, Bool, true, false, cond, ◌&&◌, ◌||◌, List, [], ◌∷◌, ◌++◌, map, pos, Some, None, Option, sym, refl, ap, ◌∙◌, ap₂, append_assoc, append-nil, add-zero, zero-add, arith}
+use Rattle.std.proofs.Common.{◌≡◌, ℕ, zero, suc, ◌+◌, ◌-◌, max, Bool, true, false, cond, ◌||◌, List, [], ◌∷◌, ◌++◌, map, pos, Some, None, Option, sym, refl, ap, ◌∙◌, ap₂, append_assoc, append-nil, add-zero, zero-add, arith}
 use Rattle.std.proofs.lemmas.Bool.{and_parts}
 use mathlib.Core.Path.{fun_ext}
 use mathlib.Core.Bool.{false≢true}

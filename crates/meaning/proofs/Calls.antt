@@ -1,9 +1,9 @@
 -- Two runs from `open` on, call by call.
-use Rattle.std.proofs.Common.{◌≡◌, ℕ, zero, suc, ◌+◌, ◌-◌, ◌<◌, ◌≤◌, Bool, true, false, cond, eqb, ltb, List, [], ◌∷◌, length, get_or, set, ℤ, pos, sym, refl, ap, ◌∙◌, subst, ap₂, subst₂, arith, eqb→eq, ltb→lt, length-set, get_or-take}
+use Rattle.std.proofs.Common.{◌≡◌, ℕ, zero, suc, ◌+◌, ◌-◌, ◌<◌, ◌≤◌, Bool, true, false, cond, eqb, ltb, List, [], ◌∷◌, length, get_or, set, ℤ, pos, sym, refl, ap, ◌∙◌, subst, ap₂, subst₂, arith, length-set, get_or-take}
 use mathlib.Core.Bool.{false≢true}
 use native.Mathlib.Decide.{dec_lt}
 use Rattle.std.proofs.lemmas.List.{get_or-set_same, get_or-set_other}
-use Rattle.std.proofs.lemmas.Bool.{eq-eqb}
+use Rattle.std.proofs.lemmas.Bool.{eqb-true, eqb-false, ltb-true}
 use Rattle.refusals.specs.declared.Reason.TheVariants as reason
 use Rattle.banks.specs.Cleared.{cleared}
 use Rattle.syntax.specs.Scripts.{Script, WellFormed}
@@ -72,12 +72,12 @@ entered_same P Q K u v b c hb hc he i lb lc eq e =
     go : (x y : Bool) → eqb K i ≡ y → register (cond x (set b K u) b) i ≡ register (cond x (set c K v) c) i
     go false y r = e
     go true true r =
-        let is : K ≡ i = eqb→eq K i (rw r tt) in
+        let is : K ≡ i = eqb-true K i r in
         let kb : K < length b = subst (λ j. j < length b) (sym is) lb in
         let kc : K < length c = subst (λ j. j < length c) (sym is) lc in
         subst (λ j. register (set b K u) j ≡ register (set c K v) j) is (get_or-set_same b K u (pos 0) kb ∙ eq is ∙ sym (get_or-set_same c K v (pos 0) kc))
     go true false r =
-        let apart : ¬ (i ≡ K) = λ x. false≢true (sym r ∙ ap (eqb K) x ∙ eq-eqb K K refl) in
+        let apart : ¬ (i ≡ K) = λ x. eqb-false K i r (sym x) in
         get_or-set_other b K i u (pos 0) apart ∙ e ∙ sym (get_or-set_other c K i v (pos 0) apart)
 
 module _ (G : Family) (L : FamilyLaws G) (reader : ℕ) (crd : IsCode G reader) (budget : ℕ) (s : Script) (wf : WellFormed s) (ok : Rewritable G s) where
@@ -152,7 +152,7 @@ module _ (G : Family) (L : FamilyLaws G) (reader : ℕ) (crd : IsCode G reader) 
 
         go : (b : Bool) → ltb k x.kept ≡ b → cond b (one x) (Refused (refusal reason.NoSuchLine)) ≡ cond b (one y) (Refused (refusal reason.NoSuchLine))
         go true q =
-            let h : k < x.kept = ltb→lt k x.kept (rw q tt) in
+            let h : k < x.kept = ltb-true k x.kept q in
             let j : k < y.kept = subst (λ n. k < n) a.count h in
             ap Kept (sym (get_or-take x.kept x.sheet k blank h) ∙ ap (λ l. get_or l k blank) a.same_lines ∙ get_or-take y.kept y.sheet k blank j)
         go false q = refl

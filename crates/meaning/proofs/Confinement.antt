@@ -1,6 +1,7 @@
 -- Rewritten scripts are confined.
 use Rattle.std.proofs.lemmas.Option.{none-some}
-use Rattle.std.proofs.Common.{◌≡◌, ℕ, suc, ◌+◌, ◌<◌, ◌≤◌, Bool, true, false, cond, ◌&&◌, ltb, List, [], ◌∷◌, length, ℤ, pos, Some, None, sym, refl, ap, ◌∙◌, subst, arith, nltb→le}
+use Rattle.std.proofs.Common.{◌≡◌, ℕ, suc, ◌+◌, ◌<◌, ◌≤◌, Bool, true, false, cond, ◌&&◌, ltb, List, [], ◌∷◌, length, ℤ, pos, Some, None, sym, refl, ap, ◌∙◌, subst, arith}
+use Rattle.std.proofs.lemmas.Bool.{ltb-false}
 use native.Mathlib.Decide.{dec_lt}
 use Rattle.refusals.specs.declared.Reason.TheVariants as reason
 use Rattle.syntax.specs.Trees.{Expression}
@@ -42,7 +43,7 @@ open_tells G P reader bank e = go (G.code reader) refl (all_codes G (levels_of P
   where
     go : (a : Bool) → G.code reader ≡ a → (b c : Bool) → ltb (length bank) (variables P) ≡ c →
         cond (a && b) (cond c (Some (refusal reason.BankTooSmall)) None) (Some (refusal reason.NotACode)) ≡ None → IsCode G reader × (variables P ≤ length bank)
-    go true x true false y h = (x, nltb→le (length bank) (variables P) (rw y tt))
+    go true x true false y h = (x, ltb-false (length bank) (variables P) y)
     go true x true true y h = absurd (none-some _ (sym h))
     go true x false c y h = absurd (none-some _ (sym h))
     go false x b c y h = absurd (none-some _ (sym h))

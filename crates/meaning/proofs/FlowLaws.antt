@@ -1,7 +1,6 @@
 -- What flows to what is a partial order, and the join is its least upper bound.
-use Rattle.std.proofs.Common.{◌≡◌, ℕ, Bool, true, false, ◌&&◌, eqb, sym, refl, ap, ◌∙◌, ap₂, eqb→eq}
-use Rattle.std.proofs.lemmas.Bool.{eq-eqb, and_parts}
-use mathlib.Core.Bool.{false≢true}
+use Rattle.std.proofs.Common.{◌≡◌, ℕ, true, ◌&&◌, eqb, sym, refl, ap, ◌∙◌, ap₂}
+use Rattle.std.proofs.lemmas.Bool.{eq-eqb, eqb-true, and_parts}
 use Rattle.meaning.specs.Families.{Family, FamilyLaws, IsCode, flows}
 use Rattle.meaning.specs.FlowLaws.{FlowLaws, FlowLawsHold}
 
@@ -11,7 +10,7 @@ module _ (G : Family) (L : FamilyLaws G) where
   told a b e =
       let h = and_parts (G.code a && G.code b) (eqb (G.join a b) b) e in
       let k = and_parts (G.code a) (G.code b) h.0 in
-      (k.0, k.1, eqb→eq (G.join a b) b (rw h.1 tt))
+      (k.0, k.1, eqb-true (G.join a b) b h.1)
 
   tells : (a b : ℕ) → IsCode G a → IsCode G b → G.join a b ≡ b → flows G a b ≡ true
   tells a b x y e = ap₂ (λ p q. (p && q) && eqb (G.join a b) b) x y ∙ ap (λ z. eqb z b) e ∙ eq-eqb b b refl

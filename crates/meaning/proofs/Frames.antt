@@ -1,6 +1,6 @@
 -- What rows leave unchanged (Frame), what a run keeps (Good), and how the registers' updates keep it.
-use Rattle.std.proofs.Common.{◌≡◌, ℕ, zero, suc, ◌+◌, ◌-◌, ◌<◌, Bool, true, false, cond, ◌||◌, eqb, List, [], ◌∷◌, ◌++◌, sym, refl, ap, ◌∙◌, subst, ap₂, ⊎_elim, inl, inr, arith, eqb→eq}
-use Rattle.std.proofs.lemmas.Bool.{ne_eqb, eq-eqb, or_cases}
+use Rattle.std.proofs.Common.{◌≡◌, ℕ, zero, suc, ◌+◌, ◌-◌, ◌<◌, Bool, true, false, cond, ◌||◌, eqb, List, [], ◌∷◌, ◌++◌, sym, refl, ap, ◌∙◌, subst, ap₂, ⊎_elim, inl, inr, arith}
+use Rattle.std.proofs.lemmas.Bool.{ne_eqb, eq-eqb, eqb-true, eqb-false, or_cases}
 use mathlib.Core.Bool.{or-true, or_assoc, false≢true}
 use Rattle.meaning.proofs.NamedCode.{Interpretation, Value, IsMachineCode, Reg, own, level, mark, guard, eval}
 use Rattle.meaning.proofs.Registers.{set}
@@ -31,16 +31,16 @@ rising-all zero p K l h = absurd (omega arith)
 rising-all (suc n) p K l h = mem-append K (rising n p) _ ∙ last (eqb n K) refl (λ x. rising-all n p K x h)
   where
     last : (b : Bool) → eqb n K ≡ b → (K < n → mem K (rising n p) ≡ true) → (mem K (rising n p) || mem K (cond (p n) (n ∷ []) [])) ≡ true
-    last true e f = ap (λ b. mem K (rising n p) || mem K (cond b (n ∷ []) [])) (ap p (eqb→eq n K (rw e tt)) ∙ h)
+    last true e f = ap (λ b. mem K (rising n p) || mem K (cond b (n ∷ []) [])) (ap p (eqb-true n K e) ∙ h)
         ∙ ap (λ b. mem K (rising n p) || (b || false)) e ∙ or-true (mem K (rising n p))
-    last false e f = let apart : ¬ (n ≡ K) = λ x. false≢true (sym e ∙ ap (eqb n) (sym x) ∙ eq-eqb n n refl) in
+    last false e f = let apart : ¬ (n ≡ K) = eqb-false n K e in
         ap (λ b. b || mem K (cond (p n) (n ∷ []) [])) (f (omega arith))
 
 pub assigned_below : (C : Value → Type 0) (n : ℕ) (S : Script) → NamedWellFormed C n S → (K : ℕ) → assigns S K ≡ true → K < n
 assigned_below C n nil w K h = absurd (false≢true h)
 assigned_below C n skip w K h = absurd (false≢true h)
-assigned_below C n (assign J e) w K h = subst (λ x. x < n) (eqb→eq J K (rw h tt)) w
-assigned_below C n (release J e) w K h = subst (λ x. x < n) (eqb→eq J K (rw h tt)) w
+assigned_below C n (assign J e) w K h = subst (λ x. x < n) (eqb-true J K h) w
+assigned_below C n (release J e) w K h = subst (λ x. x < n) (eqb-true J K h) w
 assigned_below C n (write t e) w K h = absurd (false≢true h)
 assigned_below C n (seq A B) w K h = ⊎_elim (assigned_below C n A w.0 K) (assigned_below C n B w.1 K) (or_cases (assigns A K) (assigns B K) h)
 assigned_below C n (if e A B) w K h = ⊎_elim (assigned_below C n A w.0 K) (assigned_below C n B w.1 K) (or_cases (assigns A K) (assigns B K) h)
@@ -138,7 +138,7 @@ module _ (F : Interpretation) where
     }
       where
         go : (j : ℕ) (b : Bool) → eqb K j ≡ b → cond b m (ρ (mark j)) ≡ z → ρ (own j) ≡ ρ0 (own j)
-        go j true q e = g.opening j (subst (λ i. ρ (mark i) ≡ z) (eqb→eq K j (rw q tt)) (up e))
+        go j true q e = g.opening j (subst (λ i. ρ (mark i) ≡ z) (eqb-true K j q) (up e))
         go j false q e = g.opening j e
 
     -- the mark that a raise gives

@@ -2,11 +2,11 @@
 --
 -- `tree_row` puts numbers for names: it is the row of the machine of the promises. `Match` says that a bank holds, at the number of each register in
 -- use, what the named registers hold. Then a row shows the same, goes on to the same row, and leaves registers that match again.
-use Rattle.std.proofs.Common.{◌≡◌, ℕ, zero, suc, ◌<◌, Bool, true, false, cond, ◌&&◌, eqb, List, length, set, ℤ, pos, negsuc, Some, None, Option, sym, refl, ap, ◌∙◌, subst, ap₂, eqb→eq, length-set}
+use Rattle.std.proofs.Common.{◌≡◌, ℕ, zero, suc, ◌<◌, Bool, true, false, cond, ◌&&◌, eqb, List, length, set, ℤ, pos, negsuc, Some, None, Option, sym, refl, ap, ◌∙◌, subst, ap₂, length-set}
 use mathlib.Core.Bool.{false≢true}
 use Rattle.std.proofs.lemmas.List.{get_or-set_same, get_or-set_other}
 use Rattle.std.specs.Ordering.{int_eq}
-use Rattle.std.proofs.lemmas.Bool.{eq-eqb}
+use Rattle.std.proofs.lemmas.Bool.{eqb-true, eqb-false}
 use Rattle.values.specs.Operators.{operate}
 use Rattle.syntax.specs.Trees.{Expression, number, variable, apply}
 use Rattle.syntax.specs.Form.{TreeRow, skips, assigns, releases, writes, stops, branches, leaves, closes, repeats, goes_back}
@@ -94,10 +94,10 @@ module _ (n : ℕ) (V : Reg → Type 0) (apart : (r q : Reg) → V r → V q →
       where
         go : (q : Reg) → V q → (b : Bool) → eqb (register_number n r) (register_number n q) ≡ b → register (set bank (register_number n r) u) (register_number n q) ≡ cond b v (ρ q)
         go q x true h =
-            let same : register_number n r ≡ register_number n q = eqb→eq (register_number n r) (register_number n q) (rw h tt) in
+            let same : register_number n r ≡ register_number n q = eqb-true (register_number n r) (register_number n q) h in
             ap (register (set bank (register_number n r) u)) (sym same) ∙ get_or-set_same bank (register_number n r) u (pos 0) (m.room r w) ∙ e
         go q x false h =
-            get_or-set_other bank (register_number n r) (register_number n q) u (pos 0) (λ y. false≢true (sym h ∙ ap (eqb (register_number n r)) y ∙ eq-eqb (register_number n r) (register_number n r) refl)) ∙ m.is q x
+            get_or-set_other bank (register_number n r) (register_number n q) u (pos 0) (λ y. eqb-false (register_number n r) (register_number n q) h (sym y)) ∙ m.is q x
 
     pub effect_match : {bank : List ℤ} {ρ : Reg → Value} (r : Row Reg) → ValidR G r → Match bank ρ → Match (registers_after (tree_row n r) bank) (effect F r ρ)
     effect_match rskip w m = m

@@ -1,7 +1,6 @@
 -- The relation between two runs, kept by the updates of rewritten rows.
-use Rattle.std.proofs.Common.{◌≡◌, ℕ, zero, suc, ◌<◌, Bool, true, false, cond, eqb, sym, refl, ap, ◌∙◌, subst, ap₂, inl, inr, arith, eqb→eq}
-use Rattle.std.proofs.lemmas.Bool.{eq-eqb}
-use mathlib.Core.Bool.{false≢true}
+use Rattle.std.proofs.Common.{◌≡◌, ℕ, zero, suc, ◌<◌, Bool, true, false, cond, eqb, sym, refl, ◌∙◌, subst, ap₂, inl, inr, arith}
+use Rattle.std.proofs.lemmas.Bool.{eqb-true, eqb-false}
 use Rattle.meaning.proofs.NamedCode.{Interpretation, Value, IsMachineCode, Exp, num, var, op, Reg, own, level, mark, guard, eval}
 use Rattle.meaning.proofs.Registers.{set}
 use Rattle.meaning.proofs.NamedRules.{own_exp, mark_exp, guard_exp}
@@ -58,7 +57,7 @@ module _ (F : Interpretation) (L : Laws F) (rd : Value) (crd : IsMachineCode F r
       go : (d : ℕ) → d < suc D → (b : Bool) → eqb D d ≡ b →
           (cond b v (ρ (guard d)) ≡ cond b w (σ (guard d))) × Flows F rd (cond b v (ρ (guard d))) × IsMachineCode F (cond b v (ρ (guard d)))
       go d h true q = (e, f, c)
-      go d h false q = let apart : ¬ (D ≡ d) = λ x. false≢true (sym q ∙ ap (eqb D) (sym x) ∙ eq-eqb D D refl) in r.guards d (omega arith)
+      go d h false q = r.guards d (omega (arith, eqb-false D d q))
 
   pub related_assign : {D : ℕ} {ρ σ : Reg → Value} (K : ℕ) {l v m w : Value} → IsMachineCode F l → IsMachineCode F m → Agree F rd l v m w → Tied D ρ σ →
       Tied D (set F (own K) v (set F (mark K) one (set F (level K) l ρ))) (set F (own K) w (set F (mark K) one (set F (level K) m σ)))
@@ -95,7 +94,7 @@ module _ (F : Interpretation) (L : Laws F) (rd : Value) (crd : IsMachineCode F r
 
       vals : (j : ℕ) (b : Bool) → eqb k j ≡ b →
           Agree F rd (cond b (apply join_op (ρ (level k)) (ρ (guard D))) (ρ (level j))) (ρ (own j)) (cond b (apply join_op (σ (level k)) (σ (guard D))) (σ (level j))) (σ (own j))
-      vals j true q = subst (λ i. Agree F rd (apply join_op (ρ (level k)) (ρ (guard D))) (ρ (own i)) (apply join_op (σ (level k)) (σ (guard D))) (σ (own i))) (eqb→eq k j (rw q tt))
+      vals j true q = subst (λ i. Agree F rd (apply join_op (ρ (level k)) (ρ (guard D))) (ρ (own i)) (apply join_op (σ (level k)) (σ (guard D))) (σ (own i))) (eqb-true k j q)
           (low_guard F L rd crd (r.good1.codes k) (r.good2.codes k) g.2 g.0 g.1 (r.low.vals k))
       vals j false q = r.low.vals j
 

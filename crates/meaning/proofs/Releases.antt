@@ -1,7 +1,6 @@
 -- One run: every release made hands over its opening figure, at a place whose guard level is 0.
 use Rattle.std.proofs.Common.{◌≡◌, ℕ, zero, suc, ◌+◌, ◌-◌, ◌<◌, ◌≤◌, Bool, true, false, cond, ◌||◌, eqb, List, [], ◌∷◌, length, sym, refl, ap, ◌∙◌, subst, arith}
-use Rattle.std.proofs.lemmas.Bool.{eq-eqb}
-use mathlib.Core.Bool.{false≢true}
+use Rattle.std.proofs.lemmas.Bool.{eqb-false}
 use Rattle.meaning.proofs.NamedCode.{Interpretation, Value, IsMachineCode, Exp, op, Reg, own, level, mark, guard, Code, cassign, cseq, cif, cwhile, bought, Row, rif, rstop, rnone, Laid, lay, Releasing, eval, next, after}
 use Rattle.meaning.proofs.Placed.{Placed}
 use Rattle.meaning.proofs.Registers.{set, effect, effect_by}
@@ -83,7 +82,7 @@ module _ (F : Interpretation) where
       where
         go : (d : ℕ) → d < suc D → (b : Bool) → eqb D d ≡ b → IsMachineCode F (cond b v (ρ (guard d)))
         go d h true q = c
-        go d h false q = let apart : ¬ (D ≡ d) = λ x. false≢true (sym q ∙ ap (eqb D) (sym x) ∙ eq-eqb D D refl) in r.guards d (omega arith)
+        go d h false q = r.guards d (omega (arith, eqb-false D d q))
 
     ok_assign : {D : ℕ} {ρ : Reg → Value} (K : ℕ) (l v : Value) → IsMachineCode F l → Ok D ρ → Ok D (set F (own K) v (set F (mark K) one (set F (level K) l ρ)))
     ok_assign K l v c r = record { good = good_assign F L rd K l v c r.good; guards = r.guards }
@@ -185,7 +184,7 @@ module _ (F : Interpretation) where
     fine_program ls S cl ρ o k =
         (fine_first L rd crd ρ (laid F ls S) (length ls) (nesting S) k 0 ls 0 ρ p.0
         (fine L rd crd ρ (laid F ls S) (length ls) (nesting S) S 0 _ k (omega arith) p.1 q.1 (λ σ r. over L rd crd ρ (laid F ls S) (length ls) (nesting S) k (at_end_lem code)) (put F 0 ls ρ)
-        (record { good = good F L rd crd ls cl ρ o; guards = λ d h. absurd (no_such d h) }))).run
+        (record { good = good F L rd crd ls cl ρ o; guards = λ d h. absurd (omega arith) }))).run
       where
         code : Code Reg
         code = cseq (named_first_rows 0 ls) (rewrite F (length ls) 0 S)
@@ -195,6 +194,3 @@ module _ (F : Interpretation) where
 
         q : Noted (laid F ls S) 0 0 code
         q = noted (laid F ls S) 0 0 code (has_at (lay 0 0 code))
-
-        no_such : (d : ℕ) → d < 0 → ⊥
-        no_such d h = omega arith

@@ -1,5 +1,5 @@
 -- The operators keep their laws.
-use Rattle.std.proofs.Common.{◌≡◌, ℕ, zero, suc, ◌+◌, ◌-◌, ◌*◌, ◌/◌, ◌%◌, ◌^◌, ◌<◌, ◌≤◌, max, Bool, true, false, T, ◌⊎◌, ℤ, pos, negsuc, ◌+ℤ◌, ◌-ℤ◌, ◌*ℤ◌, neg_ℤ, nat_abs, ◌≤ℤ◌, ◌<ℤ◌, Some, sym, refl, ap, ◌∙◌, mul-le-mul_left, div-add-mod', div-le_self, arith, rules, w32, SFits, to_z, of_z}
+use Rattle.std.proofs.Common.{◌≡◌, ℕ, zero, suc, ◌-◌, ◌*◌, ◌/◌, ◌^◌, ◌<◌, ◌≤◌, max, Bool, true, false, ◌⊎◌, ℤ, pos, negsuc, ◌+ℤ◌, ◌-ℤ◌, ◌*ℤ◌, neg_ℤ, nat_abs, ◌≤ℤ◌, ◌<ℤ◌, Some, sym, refl, ap, ◌∙◌, mul-le-mul_left, div-add-mod', div-le_self, arith, rules, w32, SFits, to_z, of_z}
 use Rattle.std.proofs.Math.Nat.{div-zero}
 use lib.Bits.{bit_or, or_lt, or_comm, or_self}
 use lib.Signed.{mag, lt_z, quot_z, rem_z}
