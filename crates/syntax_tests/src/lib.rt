@@ -111,7 +111,7 @@ fn with_declaration(changed: Declaration) -> u8 {
 
 // The variables `_aa`, `_ab` and so on.
 fn many() -> [Declaration; 257] {
-    let mut all = [Declaration::blank(); 257];
+    let mut all = [Declaration::default(); 257];
     let mut i: usize = 0;
     'high: for high in b'a'..=b'q' {
         'low: for low in b'a'..=b'p' {
@@ -210,7 +210,7 @@ mod tests {
     fn holds_forms(rt: HostRuntime) {
         assert_eq!(rt; outcome(&declarations(), &rows(), &nodes()), 0);
         assert_eq!(rt; outcome(&[], &[], &[]), 0);
-        assert_eq!(rt; outcome(&[], &[Row::blank()], &[]), 0);
+        assert_eq!(rt; outcome(&[], &[Row::default()], &[]), 0);
     }
 
     #[test]
@@ -334,7 +334,7 @@ mod tests {
         assert_eq!(rt; with_declaration(declaration(b'i', b'f', 0)), 13);
         assert_eq!(rt; with_declaration(declaration(b'x', b'_', 0)), 13);
         assert_eq!(rt; with_declaration(declaration(b'y', b'2', 2147483648)), 13);
-        assert_eq!(rt; with_declaration(Declaration::blank()), 13);
+        assert_eq!(rt; with_declaration(Declaration::default()), 13);
     }
 
     #[test]
