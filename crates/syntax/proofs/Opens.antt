@@ -1,66 +1,29 @@
 -- A row taken in front, in the code and in the decoder.
 --
 -- `Prepended` is shown for each kind of row, and `Sofar` is the invariant of the loop over the rows.
-use Rattle.std.proofs.Common.{◌≡◌, ℕ, zero, suc, ◌+◌, ◌<◌, ◌≤◌, Bool, true, false, cond, ◌&&◌, eqb, ltb, ◌⊎◌, List, [], ◌∷◌, length, drop, is_some, Some, None, Option, Result, Ok, Err, IsOk, OnOk, is_ok, ◌++◌, sym, refl, ap, ◌∙◌, inl, inr, add-zero, arith, length-append, length-drop, append_assoc}
+use Rattle.std.proofs.Common.{◌≡◌, ℕ, zero, suc, ◌+◌, ◌≤◌, Bool, true, false, cond, ◌&&◌, eqb, ◌⊎◌, List, [], ◌∷◌, length, drop, is_some, Some, None, Option, ◌++◌, sym, refl, ap, ◌∙◌, inl, inr, add-zero, arith, length-append, length-drop, append_assoc}
 use Rattle.std.proofs.Math.Seq.{drop-append_seam}
-use Rattle.std.specs.Prelude.{◌↔◌}
-use Rattle.std.specs.Bool.{MatchBool}
-use Rattle.std.proofs.lemmas.Bool.{cond-true, cond-false, lt-ltb, le-ltb, false≢true, ne_eqb, eq-eqb, and_left}
+use Rattle.std.proofs.lemmas.Bool.{false≢true, ne_eqb, and_left}
 use Rattle.std.proofs.lemmas.List.{drop_all}
 use Rattle.syntax.specs.declared.form.Node.{Node}
 use Rattle.syntax.specs.declared.form.Row.{Row}
-use Rattle.syntax.specs.declared.form.Row.TheVariants.{Skip, Assign, Release, Write, Stop, Else}
+use Rattle.syntax.specs.declared.form.Row.TheVariants.{Skip, Assign, Release, Write, Stop}
 use Rattle.syntax.specs.declared.rows.Open.{Open}
-use Rattle.syntax.specs.declared.rows.Open.TheVariants.{Otherwise, Then}
 use Rattle.syntax.specs.Trees.{Expression, Statement, Statements, none, then, skip, assign, release, write, stop}
-use Rattle.syntax.specs.Decoder.{bind, when, Frame, in_else, in_then, in_body, stack, state, row_expression, first_node, prepend, decode_row, decode_rows, closed, finish, statements_of}
+use Rattle.syntax.specs.Decoder.{bind, Frame, stack, state, row_expression, first_node, prepend, decode_row, decode_rows, closed, finish, statements_of}
 use Rattle.syntax.specs.OpenBlocks.{shape, opens_of, Stacked, Prepended}
 
-count : (gs : List Frame) → length (opens_of gs) ≡ length gs
+pub count : (gs : List Frame) → length (opens_of gs) ≡ length gs
 count [] = refl
 count (g ∷ gs) = omega (arith, length-append (opens_of gs) (shape g ∷ []), count gs)
 
-last_is : (xs ys : List Open) (x y : Open) → xs ++ x ∷ [] ≡ ys ++ y ∷ [] → (xs ≡ ys) × (x ≡ y)
+pub last_is : (xs ys : List Open) (x y : Open) → xs ++ x ∷ [] ≡ ys ++ y ∷ [] → (xs ≡ ys) × (x ≡ y)
 last_is [] [] x y h = (refl, cc)
 last_is [] (z ∷ ys) x y h = absurd (omega (arith, ap length h, length-append ys (y ∷ [])))
 last_is (z ∷ xs) [] x y h = absurd (omega (arith, ap length h, length-append xs (x ∷ [])))
 last_is (z ∷ xs) (w ∷ ys) x y h = let q = last_is xs ys x y cc in (cc, q.1)
 
 module _ (b : ℕ) (r : Row) (e : Expression) (l : Statements) where
-  -- a block that is pushed
-  pub pushed : {E : Type 0} (gs : List Frame) (opens new : List Open) (g : Frame) (put : Result (Unit {0}) E) → Stacked opens gs
-      → prepend b r e l gs ≡ when (ltb (length gs) 20) (stack none (g ∷ gs))
-      → (IsOk put ↔ (length opens < 20)) → OnOk put (new ≡ opens ++ shape g ∷ [])
-      → MatchBool (is_ok put) (Prepended b r e l gs new) (prepend b r e l gs ≡ None)
-  pushed gs opens new g (Ok u) s p v o =
-      let few : length gs < 20 = omega (arith, v.0 refl, ap length s.are, count gs) in
-      record { block = none; frames = g ∷ gs; gives = p ∙ cond-true _ _ _ (lt-ltb (length gs) 20 few); stacked = record { are = o ∙ ap (λ x. x ++ shape g ∷ []) s.are; few = omega arith } }
-  pushed gs opens new g (Err x) s p v o = p ∙ cond-false _ _ _ (le-ltb (length gs) 20 (full (λ h. false≢true (v.1 h))))
-    where
-      full : (length opens < 20 → ⊥) → 20 ≤ length gs
-      full n = omega (arith, n, ap length s.are, count gs)
-
-  -- an `else`, whose second arm is taken off and whose first arm is pushed
-  pub swapped : {E : Type 0} (m : ℕ) (gs : List Frame) (opens less new : List Open) (put : Result (Unit {0}) E) → r ≡ Else m → Stacked opens gs
-      → opens ≡ less ++ Otherwise m ∷ []
-      → (IsOk put ↔ (length less < 20)) → OnOk put (new ≡ less ++ Then b ∷ [])
-      → MatchBool (is_ok put) (Prepended b r e l gs new) (prepend b r e l gs ≡ None)
-  swapped m [] opens less new put p s h v o = absurd (omega (arith, ap length (sym s.are ∙ h), length-append less (Otherwise m ∷ [])))
-  swapped m (in_then j n B rest ∷ gs) opens less new put p s h v o = absurd (let e = (last_is _ _ _ _ (sym s.are ∙ h)).1 in cc)
-  swapped m (in_body w n rest ∷ gs) opens less new put p s h v o = absurd (let e = (last_is _ _ _ _ (sym s.are ∙ h)).1 in cc)
-  swapped m (in_else n rest ∷ gs) opens less new (Ok u) p s h v o =
-      let q = last_is (opens_of gs) less (Otherwise n) (Otherwise m) (sym s.are ∙ h) in
-      let same : n ≡ m = let e = q.1 in cc in
-      record {
-        block = none;
-        frames = in_then b n l rest ∷ gs;
-        gives = ap (λ x. prepend b x e l (in_else n rest ∷ gs)) p ∙ cond-true _ _ _ (eq-eqb m n (sym same));
-        stacked = record { are = o ∙ ap (λ x. x ++ Then b ∷ []) (sym q.0); few = s.few };
-      }
-  swapped m (in_else n rest ∷ gs) opens less new (Err x) p s h v o =
-      let q = last_is (opens_of gs) less (Otherwise n) (Otherwise m) (sym s.are ∙ h) in
-      absurd (false≢true (v.1 (let few : length less < 20 = omega (arith, s.few, ap length q.0, count gs) in few)))
-
   -- a row that is a statement
   pub plain_prepended : (gs : List Frame) (opens : List Open)
       → (r ≡ Skip) ⊎ (((v : ℕ) × (i : ℕ) × (r ≡ Assign v i)) ⊎ (((v : ℕ) × (i : ℕ) × (r ≡ Release v i)) ⊎ (((v : ℕ) × (i : ℕ) × (r ≡ Write v i)) ⊎ ((n : ℕ) × (r ≡ Stop n)))))

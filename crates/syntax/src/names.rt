@@ -1,18 +1,33 @@
 // Checks of a list of declarations.
-ghost use Rattle.std.specs.Prelude.{◌≡◌, ℕ, ◌+◌, ◌<◌, ◌≤◌, Bool, true, false, not, length, drop, if◌then◌else◌, ◌==◌};
-ghost use Rattle.std.specs.Str.{bytes_eq};
+ghost use Rattle.std.specs.Prelude.{◌≡◌, ◌==◌};
+ghost use Rattle.std.specs.List.{list_all};
 ghost use Rattle.letters.specs.Classes.{is_digit, is_word};
 ghost use Rattle.syntax.specs.Names.{padded, spelled, legal_name, legal_declaration, among, spellings, distinct, all_legal, well_declared};
 
 use super::form::{Declaration, GREATEST, Name};
 use letters::{is_digit, is_word, keyword_of};
 
+// Whether there are only letters and digits.
+fn all_word(bytes: &[u8]) -> bool
+    ensures { result ≡ list_all is_word bytes.now }
+{
+    bytes.iter().all(|&b| is_word(b))
+}
+
+// Whether there are only zeros.
+fn all_zero(bytes: &[u8]) -> bool
+    ensures { result ≡ list_all (λ b. b == 0) bytes.now }
+{
+    bytes.iter().all(|&b| b == 0)
+}
+
 // Whether `count` letters and digits stand first, and then zeros.
+#[tactic(auto, using(crate::proofs::Spelled::padded_parts, crate::proofs::Spelled::padded_short))]
 fn is_padded(bytes: &[u8; 15], count: usize) -> bool
     ensures { result ≡ padded count bytes.now }
 {
     match bytes.split_at_checked(count) {
-        Some((word, rest)) => word.iter().all(|&b| is_word(b)) && rest.iter().all(|&b| b == 0),
+        Some((word, rest)) => all_word(word) && all_zero(rest),
         None => false,
     }
 }

@@ -62,6 +62,7 @@ fn first_node(row: Row, next: usize) -> usize
 }
 
 // Takes row `at` in front of the rows behind it, if it fits there. `opens` is what is open, the innermost last.
+#[tactic(auto, using(crate::proofs::Opens::count, crate::proofs::Opens::last_is))]
 fn prepend(opens: &mut ArrayVec<Open, 20>, row: Row, at: usize) -> bool
     ensures { (e : Expression) (l : Statements) (gs : List Frame) → Stacked opens.old.items gs → MatchBool result (Prepended at row e l gs opens.new.items) (taken at row e l gs ≡ None) }
 {
