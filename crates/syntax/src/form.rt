@@ -31,7 +31,7 @@ pub enum Row {
     EndWhile { while_row: usize },
 }
 
-// A name of `length` bytes, and zeros behind it.
+// A name of `length` bytes, and zeros behind it. The length stays beside the bytes: a C interface will read this layout.
 #[derive(Clone, Copy, PartialEq, Eq, Debug)]
 pub struct Name {
     pub length: u8,
