@@ -1,6 +1,6 @@
 // Classes of bytes.
 ghost use Rattle.std.specs.Prelude.{◌≡◌};
-ghost use Rattle.letters.specs.Classes.{class_of};
+ghost use Rattle.letters.specs.Classes.{class_of, is_digit, is_word};
 
 // What a byte is to the letters: it can begin a word, a numeral or a symbol, stand between tokens, or do none of these.
 #[derive(Clone, Copy, PartialEq, Eq, Debug)]
@@ -23,4 +23,18 @@ pub fn class_of(byte: u8) -> Class
         ':' | ';' | '(' | ')' | '+' | '-' | '*' | '/' | '=' | '<' | '|' => Class::Symbol,
         _ => Class::Stranger,
     }
+}
+
+// Whether a byte may stand in a word.
+pub fn is_word(byte: u8) -> bool
+    ensures { result ≡ is_word byte }
+{
+    matches!(class_of(byte), Class::Letter | Class::Digit)
+}
+
+// Whether a byte is a digit.
+pub fn is_digit(byte: u8) -> bool
+    ensures { result ≡ is_digit byte }
+{
+    matches!(class_of(byte), Class::Digit)
 }

@@ -8,7 +8,7 @@ mod symbols;
 mod texts;
 mod tokens;
 
-pub use classes::{Class, class_of};
+pub use classes::{Class, class_of, is_digit, is_word};
 pub use keywords::{Keyword, keyword_of};
 pub use numerals::numeral_value;
 pub use symbols::{Symbol, symbol_of};

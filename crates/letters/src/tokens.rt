@@ -4,7 +4,7 @@ ghost use Rattle.std.specs.List.{prefix_len};
 ghost use Rattle.letters.specs.Classes.{is_letter, is_word, is_digit, is_blank};
 ghost use Rattle.letters.specs.Tokens.{lexeme, word_lexeme, digits_lexeme, seen, told, next_at, Inside};
 
-use super::classes::{Class, class_of};
+use super::classes::{Class, class_of, is_digit, is_word};
 use super::keywords::{Keyword, keyword_of};
 use super::numerals::numeral_value;
 use super::symbols::{Symbol, symbol_of};
@@ -31,24 +31,6 @@ pub struct Lexed<'a> {
 
 // the longest name
 const NAME_BYTES: usize = 15;
-
-fn is_word(byte: u8) -> bool
-    ensures { result ≡ is_word byte }
-{
-    match class_of(byte) {
-        Class::Letter | Class::Digit => true,
-        Class::Blank | Class::Symbol | Class::Stranger => false,
-    }
-}
-
-fn is_digit(byte: u8) -> bool
-    ensures { result ≡ is_digit byte }
-{
-    match class_of(byte) {
-        Class::Digit => true,
-        Class::Letter | Class::Blank | Class::Symbol | Class::Stranger => false,
-    }
-}
 
 fn is_blank(byte: u8) -> bool
     ensures { result ≡ is_blank byte }

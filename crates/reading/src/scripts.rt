@@ -83,9 +83,9 @@ pub fn read(
         }
     };
     if has_room(used, declarations.len(), rows.len(), nodes.len()) {
-        blank(declarations, used.declarations, Declaration::blank());
-        blank(rows, used.rows, Row::blank());
-        blank(nodes, used.nodes, Node::blank());
+        blank(declarations, used.declarations, Declaration::default());
+        blank(rows, used.rows, Row::default());
+        blank(nodes, used.nodes, Node::default());
         Ok(used)
     } else {
         blank_all(declarations, rows, nodes);
@@ -104,9 +104,9 @@ fn has_room(used: Used, declarations: usize, rows: usize, nodes: usize) -> bool
 fn blank_all(declarations: &mut [Declaration], rows: &mut [Row], nodes: &mut [Node])
     ensures { Blanks (length declarations.old) (length rows.old) (length nodes.old) declarations.new rows.new nodes.new }
 {
-    blank(declarations, 0, Declaration::blank());
-    blank(rows, 0, Row::blank());
-    blank(nodes, 0, Node::blank());
+    blank(declarations, 0, Declaration::default());
+    blank(rows, 0, Row::default());
+    blank(nodes, 0, Node::default());
 }
 
 // A text is the text of one script at most, and a text that the left-to-right rule refuses is the text of none. What stands behind a refused

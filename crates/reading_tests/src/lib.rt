@@ -39,7 +39,7 @@ fn is_blank(declaration: &Declaration, row: &Row, node: &Node) -> bool {
 
 // Reads into lists of at most 4 places, which hold something else before.
 fn read_into(text: &[u8], d: usize, r: usize, n: usize) -> Answer {
-    let mut declarations = [Declaration::blank(); 4];
+    let mut declarations = [Declaration::default(); 4];
     declarations[0].level = 9;
     let mut rows = [Row::EndIf; 4];
     let mut nodes = [Node::Variable(9); 4];

@@ -3,9 +3,9 @@
 -- `Of o P` says P of what an option holds, if it holds something; with `bind_of`, `when_of` and `cond_of` a fact is carried through the decoder
 -- without a case for each refusal.
 use Rattle.std.proofs.Common.{◌≡◌, ℕ, zero, suc, ◌+◌, ◌-◌, ◌<◌, ◌≤◌, Bool, true, false, cond, ltb, leb, List, [], ◌∷◌, length, get_or, drop, Some, None, Option, refl, ap, ◌∙◌, sub-one, arith, MatchOption}
-use Rattle.std.proofs.lemmas.Bool.{cond-true, cond-false, lt-ltb, le-leb, le-ltb, lt-leb}
+use Rattle.std.proofs.lemmas.Bool.{cond-true, lt-ltb, le-leb}
 use Rattle.std.proofs.lemmas.Bool.Decides.{nat_tests}
-use Rattle.std.proofs.lemmas.List.{drop_more, drop_all}
+use Rattle.std.proofs.lemmas.List.{drop_more}
 use Rattle.values.specs.declared.Operator.{Operator}
 use Rattle.syntax.specs.declared.form.Node.{Node}
 use Rattle.syntax.specs.declared.form.Node.TheVariants.{Numeral, Variable, Apply}
@@ -17,9 +17,6 @@ abbrev second : ℕ → ℕ → Operator → Parsed → Option Parsed
 second k d o a = bind (expression_of k d a.rest) (λ b. Some (parsed (apply o a.expression b.expression) b.rest))
 
 module _ (k : ℕ) (nodes : List Node) (at : ℕ) where
-  pub past : (d : ℕ) → length nodes ≤ at → expression_of k d (drop at nodes) ≡ None
-  past d h = ap (expression_of k d) (drop_all at nodes h)
-
   module _ (lt : at < length nodes) where
     from : (x : Node) → get_or nodes at (Numeral 0) ≡ x → drop at nodes ≡ x ∷ drop (at + 1) nodes
     from x e = drop_more nodes at (Numeral 0) lt ∙ ap (λ y. y ∷ drop (at + 1) nodes) e
@@ -32,9 +29,6 @@ module _ (k : ℕ) (nodes : List Node) (at : ℕ) where
       within = omega arith;
     }
 
-    pub no_numeral : (d n : ℕ) → get_or nodes at (Numeral 0) ≡ Numeral n → 2147483647 < n → expression_of k d (drop at nodes) ≡ None
-    no_numeral d n e h = ap (expression_of k d) (from (Numeral n) e) ∙ cond-false _ _ _ (lt-leb n 2147483647 h)
-
     pub variable_spans : (d v : ℕ) → get_or nodes at (Numeral 0) ≡ Variable v → v < k → Spans k d nodes at (at + 1)
     variable_spans d v e h = record {
       expression = variable v;
@@ -43,20 +37,10 @@ module _ (k : ℕ) (nodes : List Node) (at : ℕ) where
       within = omega arith;
     }
 
-    pub no_variable : (d v : ℕ) → get_or nodes at (Numeral 0) ≡ Variable v → k ≤ v → expression_of k d (drop at nodes) ≡ None
-    no_variable d v e h = ap (expression_of k d) (from (Variable v) e) ∙ cond-false _ _ _ (le-ltb v k h)
-
     module _ (o : Operator) (e : get_or nodes at (Numeral 0) ≡ Apply o) where
-      pub too_deep : (d : ℕ) → d ≡ 0 → expression_of k d (drop at nodes) ≡ None
-      too_deep zero z = ap (expression_of k zero) (from (Apply o) e)
-      too_deep (suc d) z = absurd (omega arith)
-
       opens : (d : ℕ) → (d ≡ 0 → ⊥) → expression_of k d (drop at nodes) ≡ bind (expression_of k (d - 1) (drop (at + 1) nodes)) (second k (d - 1) o)
       opens zero n = absurd (n refl)
       opens (suc d) n = rw (sub-one (suc d)) (ap (expression_of k (suc d)) (from (Apply o) e))
-
-      pub no_left : (d : ℕ) → (d ≡ 0 → ⊥) → expression_of k (d - 1) (drop (at + 1) nodes) ≡ None → expression_of k d (drop at nodes) ≡ None
-      no_left d n r = opens d n ∙ ap (λ x. bind x (second k (d - 1) o)) r
 
       pub both : (d : ℕ) → (d ≡ 0 → ⊥) → (p : ℕ) → Spans k (d - 1) nodes (at + 1) p → (r : Option ℕ)
           → MatchOption r (expression_of k (d - 1) (drop p nodes) ≡ None) (λ q. Spans k (d - 1) nodes p q)

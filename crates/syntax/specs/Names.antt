@@ -5,7 +5,8 @@
 -- A script declares at most 256 variables, no two of one name.
 --
 -- Example: `x1` is kept as the length 2 and the bytes 120, 49 and thirteen zeros. `1x`, `while` and the empty name are not legal.
-use Rattle.std.specs.Prelude.{ℕ, zero, suc, Bool, true, false, not, ◌&&◌, ◌||◌, List, [], ◌∷◌, length, take, replicate, is_some, ◌==◌, nat_le, nat_lt, slice_index}
+use Rattle.std.specs.Prelude.{ℕ, zero, suc, Bool, true, false, not, ◌&&◌, List, [], ◌∷◌, length, map, take, replicate, is_some, ◌==◌, nat_le, nat_lt, slice_index}
+use Rattle.std.specs.List.{list_all, list_any}
 use Rattle.std.specs.Str.{bytes_eq}
 use Rattle.letters.specs.Classes.{is_digit, is_word}
 use Rattle.letters.specs.Keywords.{keyword_of}
@@ -30,17 +31,14 @@ abbrev pub legal_declaration : Declaration → Bool
 legal_declaration d = legal_name d.name && nat_le d.level 2147483647
 
 abbrev pub all_legal : List Declaration → Bool
-all_legal [] = true
-all_legal (d ∷ ds) = legal_declaration d && all_legal ds
+all_legal = list_all legal_declaration
 
 abbrev pub spellings : List Declaration → List (List ℕ)
-spellings [] = []
-spellings (d ∷ ds) = spelled d.name ∷ spellings ds
+spellings = map (λ d. spelled d.name)
 
 -- whether a word is one of several
 abbrev pub among : List ℕ → List (List ℕ) → Bool
-among w [] = false
-among w (x ∷ xs) = bytes_eq w x || among w xs
+among w = list_any (bytes_eq w)
 
 abbrev pub distinct : List (List ℕ) → Bool
 distinct [] = true

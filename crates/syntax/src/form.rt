@@ -1,6 +1,6 @@
 // What the three lists of a script hold: declarations, rows and nodes.
 ghost use Rattle.std.specs.Prelude.{◌≡◌};
-ghost use Rattle.syntax.specs.Names.{blank_declaration};
+ghost use Rattle.syntax.specs.Names.{spelled};
 
 use values::Operator;
 
@@ -31,43 +31,50 @@ pub enum Row {
     EndWhile { while_row: usize },
 }
 
-// A name of `length` bytes, and zeros behind it.
-#[derive(Clone, Copy, Debug)]
+// A name of `length` bytes, and zeros behind it. The length stays beside the bytes: a C interface will read this layout.
+#[derive(Clone, Copy, PartialEq, Eq, Debug)]
 pub struct Name {
     pub length: u8,
     pub bytes: [u8; 15],
 }
 
 // A variable's name and level.
-#[derive(Clone, Copy, Debug)]
+#[derive(Clone, Copy, PartialEq, Eq, Debug)]
 pub struct Declaration {
     pub name: Name,
     pub level: u32,
 }
 
-impl Node {
+// Defaults by hand, so that a clause and not an attribute says which value it is.
+impl Default for Node {
+    ghost use Rattle.syntax.specs.declared.form.Node.TheVariants.{Numeral};
+
+    ghost is_default = { λ x. x ≡ Numeral 0 };
+
     // What stands behind the nodes that are used.
-    pub fn blank() -> Node
-        ensures { result ≡ Node.Numeral 0 }
-    {
+    fn default() -> Node {
         Node::Numeral(0)
     }
 }
 
-impl Row {
+impl Default for Row {
+    ghost use Rattle.syntax.specs.declared.form.Row.TheVariants.{Skip};
+
+    ghost is_default = { λ x. x ≡ Skip };
+
     // What stands behind the rows that are used.
-    pub fn blank() -> Row
-        ensures { result ≡ Row.Skip }
-    {
+    fn default() -> Row {
         Row::Skip
     }
 }
 
-impl Declaration {
+impl Default for Declaration {
+    ghost use Rattle.syntax.specs.Names.{blank_declaration};
+
+    ghost is_default = { λ x. x ≡ blank_declaration };
+
     // What stands behind the declarations that are used: the empty name, of level 0.
-    pub fn blank() -> Declaration
-        ensures { result ≡ blank_declaration }
-    {
+    fn default() -> Declaration {
         Declaration {
             name: Name {
                 length: 0,
@@ -75,5 +82,14 @@ impl Declaration {
             },
             level: 0,
         }
+    }
+}
+
+impl Name {
+    // What a name is spelled.
+    pub fn spelling(&self) -> &[u8]
+        ensures { result.now ≡ spelled self.now }
+    {
+        &self.bytes[..15.min(self.length as usize)]
     }
 }

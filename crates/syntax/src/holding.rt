@@ -43,6 +43,7 @@ impl<'a> Program<'a> {
     }
 
     // Takes lists that are the form of a script in place of the program held before. Other lists are refused, and nothing changes.
+    // Three lists, and not one struct of them, since a C interface will have three pointers.
     pub fn hold(
         &mut self,
         declarations: &'a [Declaration],

@@ -1,28 +1,34 @@
 // Checks of rows and nodes, from the last row to the first.
-ghost use Rattle.std.specs.Prelude.{◌≡◌, ℕ, ◌+◌, ◌<◌, ◌≤◌, Bool, true, false, ◌&&◌, List, length, is_some, IfSome, None, MatchOption, ◌==◌};
+ghost use Rattle.std.specs.Prelude.{◌≡◌, ◌&&◌, List, length, is_some, None, ◌==◌};
+ghost use Rattle.std.specs.Bool.{MatchBool};
 ghost use Rattle.syntax.specs.Trees.{Expression, Statements};
 ghost use Rattle.syntax.specs.Decoder.{Frame, value_at, row_expression, first_node, prepend as taken, statements_of};
-ghost use Rattle.syntax.specs.OpenBlocks.{is_then, is_else, is_body, Stacked, Prepended};
+ghost use Rattle.syntax.specs.OpenBlocks.{Stacked, Prepended};
 
 use super::expressions::expression_end;
 use super::form::{GREATEST, Node, Row};
+use arrayvec::ArrayVec;
 
 // An if or a while whose end was met, in its second arm, its first arm or its body, and the rows that the rows before must name.
-#[derive(Clone, Copy)]
+#[derive(Clone, Copy, PartialEq, Eq)]
 pub enum Open {
     Otherwise { end_row: usize },
     Then { else_row: usize },
     Body { while_row: usize, end_row: usize },
 }
 
+// What stands in the places of a stack that are not used.
+impl Default for Open {
+    fn default() -> Open {
+        Open::Otherwise { end_row: 0 }
+    }
+}
+
 // Whether an expression stands from `at` up to `next`.
 fn value_stands(nodes: &[Node], at: usize, next: usize, count: usize) -> bool
     ensures { result ≡ is_some (value_at count nodes.now next at) }
 {
-    match expression_end(nodes, at, 20, count) {
-        Some(q) => q == next,
-        None => false,
-    }
+    expression_end(nodes, at, 20, count) == Some(next)
 }
 
 // Whether a row's own numbers are in range, and its expression stands right before `next`.
@@ -55,130 +61,58 @@ fn first_node(row: Row, next: usize) -> usize
     }
 }
 
-// Whether the innermost open one is a first arm, and its `else` is row `m`.
-fn is_then(opens: &[Open; 20], depth: usize, m: usize) -> bool
-    requires { depth ≤ 20 }
-    ensures { (gs : List Frame) → Stacked opens.now gs → depth ≡ length gs → result ≡ is_then m gs }
-{
-    if depth == 0 {
-        return false;
-    }
-    match opens[depth - 1] {
-        Open::Then { else_row } => else_row == m,
-        _ => false,
-    }
-}
-
-// Whether the innermost open one is a second arm, and its end is row `m`.
-fn is_else(opens: &[Open; 20], depth: usize, m: usize) -> bool
-    requires { depth ≤ 20 }
-    ensures { (gs : List Frame) → Stacked opens.now gs → depth ≡ length gs → result ≡ is_else m gs }
-{
-    if depth == 0 {
-        return false;
-    }
-    match opens[depth - 1] {
-        Open::Otherwise { end_row } => end_row == m,
-        _ => false,
-    }
-}
-
-// Whether the innermost open one is the body of a `while` in row `b`, and its end is row `m`.
-fn is_body(opens: &[Open; 20], depth: usize, b: usize, m: usize) -> bool
-    requires { depth ≤ 20 }
-    ensures { (gs : List Frame) → Stacked opens.now gs → depth ≡ length gs → result ≡ is_body b m gs }
-{
-    if depth == 0 {
-        return false;
-    }
-    match opens[depth - 1] {
-        Open::Body { while_row, end_row } => while_row == b && end_row == m,
-        _ => false,
-    }
-}
-
-// Takes row `at` in front of the rows behind it: how many ifs and whiles are open then, or nothing where the row does not fit there.
-fn prepend(opens: &mut [Open; 20], depth: usize, row: Row, at: usize) -> Option<usize>
-    requires { depth ≤ 20 }
-    ensures few { IfSome result (λ d. d ≤ 20) }
-    ensures prepended { (e : Expression) (l : Statements) (gs : List Frame) → Stacked opens.old gs → depth ≡ length gs → MatchOption result (taken at row e l gs ≡ None) (λ d. Prepended at row e l gs opens.new d) }
+// Takes row `at` in front of the rows behind it, if it fits there. `opens` is what is open, the innermost last.
+#[tactic(auto, using(crate::proofs::Opens::count, crate::proofs::Opens::last_is))]
+fn prepend(opens: &mut ArrayVec<Open, 20>, row: Row, at: usize) -> bool
+    ensures { (e : Expression) (l : Statements) (gs : List Frame) → Stacked opens.old.items gs → MatchBool result (Prepended at row e l gs opens.new.items) (taken at row e l gs ≡ None) }
 {
     match row {
-        Row::If { else_row, .. } => {
-            if is_then(opens, depth, else_row) && depth > 0 {
-                Some(depth - 1)
-            } else {
-                None
-            }
-        }
+        Row::If { else_row, .. } => opens.pop() == Some(Open::Then { else_row }),
         Row::While { end_row, .. } => {
-            if is_body(opens, depth, at, end_row) && depth > 0 {
-                Some(depth - 1)
-            } else {
-                None
-            }
+            let body = Open::Body {
+                while_row: at,
+                end_row,
+            };
+            opens.pop() == Some(body)
         }
         Row::Else { end_row } => {
-            if is_else(opens, depth, end_row) && depth > 0 {
-                opens[depth - 1] = Open::Then { else_row: at };
-                Some(depth)
-            } else {
-                None
-            }
+            opens.pop() == Some(Open::Otherwise { end_row })
+                && opens.try_push(Open::Then { else_row: at }).is_ok()
         }
-        Row::EndIf => {
-            if depth < 20 {
-                opens[depth] = Open::Otherwise { end_row: at };
-                Some(depth + 1)
-            } else {
-                None
-            }
-        }
+        Row::EndIf => opens.try_push(Open::Otherwise { end_row: at }).is_ok(),
         Row::EndWhile { while_row } => {
-            if depth < 20 {
-                opens[depth] = Open::Body {
-                    while_row,
-                    end_row: at,
-                };
-                Some(depth + 1)
-            } else {
-                None
-            }
+            let body = Open::Body {
+                while_row,
+                end_row: at,
+            };
+            opens.try_push(body).is_ok()
         }
         Row::Skip
         | Row::Assign { .. }
         | Row::Release { .. }
         | Row::Write { .. }
-        | Row::Stop { .. } => Some(depth),
+        | Row::Stop { .. } => true,
     }
 }
 
 // Whether, before the first row, nothing is open and every node is used.
-fn is_finished(depth: usize, next: usize) -> bool
-    ensures { result ≡ (depth == 0 && next == 0) }
+fn is_finished(opens: &ArrayVec<Open, 20>, next: usize) -> bool
+    ensures { result ≡ (length opens.now.items == 0 && next == 0) }
 {
-    depth == 0 && next == 0
+    opens.is_empty() && next == 0
 }
 
 // Whether rows and nodes are the form of statements over `count` variables. Each node is looked at once.
 pub fn statements_stand(rows: &[Row], nodes: &[Node], count: usize) -> bool
     ensures { result ≡ is_some (statements_of count rows.now nodes.now) }
 {
-    let mut opens = [Open::Otherwise { end_row: 0 }; 20];
-    let mut depth = 0;
+    let mut opens: ArrayVec<Open, 20> = ArrayVec::new();
     let mut next = nodes.len();
-    let mut i = rows.len();
-    'each: while i > 0 {
-        i -= 1;
-        let row = rows[i];
-        if !row_stands(row, nodes, next, count) {
+    'each: for (i, &row) in rows.iter().enumerate().rev() {
+        if !row_stands(row, nodes, next, count) || !prepend(&mut opens, row, i) {
             return false;
         }
-        let Some(d) = prepend(&mut opens, depth, row, i) else {
-            return false;
-        };
-        depth = d;
         next = first_node(row, next);
     }
-    is_finished(depth, next)
+    is_finished(&opens, next)
 }

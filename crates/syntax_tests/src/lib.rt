@@ -9,7 +9,7 @@
 //     write 0 y;
 #![tactic(auto)]
 
-use refusals::Refusal;
+use refusals::{Reason, Refusal};
 use syntax::{Declaration, Name, Node, Program, Row};
 use values::Operator;
 
@@ -71,70 +71,52 @@ fn nodes() -> [Node; 11] {
     ]
 }
 
-// The number of the refusal of these lists, or 0 where they are held.
-fn outcome<'a>(declarations: &'a [Declaration], rows: &'a [Row], nodes: &'a [Node]) -> u8 {
+// The answer where these lists are given to be held.
+fn outcome<'a>(
+    declarations: &'a [Declaration],
+    rows: &'a [Row],
+    nodes: &'a [Node],
+) -> Result<(), Refusal> {
     let mut program = Program::empty();
-    match program.hold(declarations, rows, nodes) {
-        Ok(()) => 0,
-        Err(refusal) => number(refusal),
-    }
+    program.hold(declarations, rows, nodes)
 }
 
-fn number(refusal: Refusal) -> u8 {
-    if refusal.place == 0 {
-        refusal.number()
-    } else {
-        255
-    }
+// The refusal of lists that are no form.
+fn refused() -> Result<(), Refusal> {
+    Err(Refusal::new(Reason::NotAForm, 0))
 }
 
 // The outcome with one row, one node or one declaration replaced.
-fn with_row(at: usize, row: Row) -> u8 {
+fn with_row(at: usize, row: Row) -> Result<(), Refusal> {
     let mut changed = rows();
-    if at < 9 {
-        changed[at] = row;
+    if let Some(place) = changed.get_mut(at) {
+        *place = row;
     }
     outcome(&declarations(), &changed, &nodes())
 }
 
-fn with_node(at: usize, node: Node) -> u8 {
+fn with_node(at: usize, node: Node) -> Result<(), Refusal> {
     let mut changed = nodes();
-    if at < 11 {
-        changed[at] = node;
+    if let Some(place) = changed.get_mut(at) {
+        *place = node;
     }
     outcome(&declarations(), &rows(), &changed)
 }
 
-fn with_declaration(changed: Declaration) -> u8 {
+fn with_declaration(changed: Declaration) -> Result<(), Refusal> {
     outcome(&[declaration(b'x', b'_', 3), changed], &rows(), &nodes())
 }
 
 // The variables `_aa`, `_ab` and so on.
 fn many() -> [Declaration; 257] {
-    let mut all = [Declaration::blank(); 257];
-    let mut i: usize = 0;
-    'high: for high in b'a'..=b'q' {
-        'low: for low in b'a'..=b'p' {
-            if i < 257 {
-                all[i].name.length = 3;
-                all[i].name.bytes[0] = b'_';
-                all[i].name.bytes[1] = high;
-                all[i].name.bytes[2] = low;
-                i += 1;
-            }
-        }
+    let mut all = [Declaration::default(); 257];
+    'each: for (i, declaration) in all.iter_mut().enumerate() {
+        declaration.name.length = 3;
+        declaration.name.bytes[0] = b'_';
+        declaration.name.bytes[1] = b'a' + (i / 16) as u8;
+        declaration.name.bytes[2] = b'a' + (i % 16) as u8;
     }
     all
-}
-
-// The outcome with so many variables and no statement.
-fn with_count(count: usize) -> u8 {
-    let all = many();
-    if count <= 257 {
-        outcome(&all[0..count], &[], &[])
-    } else {
-        255
-    }
 }
 
 // The next of a sequence of numbers without much order.
@@ -177,9 +159,9 @@ fn random_node(number: u32) -> Node {
 fn random_rows(from: u32) -> [Row; 9] {
     let mut number = from;
     let mut garbage = rows();
-    'rows: for i in 0..9usize {
+    'rows: for row in garbage.iter_mut() {
         number = next(number);
-        garbage[i] = random_row(number);
+        *row = random_row(number);
     }
     garbage[8] = Row::While {
         condition: 0,
@@ -191,14 +173,14 @@ fn random_rows(from: u32) -> [Row; 9] {
 fn random_nodes(from: u32) -> [Node; 11] {
     let mut number = from;
     let mut garbage = nodes();
-    'nodes: for i in 0..11usize {
+    'nodes: for node in garbage.iter_mut() {
         number = next(number);
-        garbage[i] = random_node(number);
+        *node = random_node(number);
     }
     garbage
 }
 
-fn with_random(from: u32) -> u8 {
+fn with_random(from: u32) -> Result<(), Refusal> {
     outcome(&declarations(), &random_rows(from), &random_nodes(from))
 }
 
@@ -208,15 +190,15 @@ mod tests {
 
     #[test]
     fn holds_forms(rt: HostRuntime) {
-        assert_eq!(rt; outcome(&declarations(), &rows(), &nodes()), 0);
-        assert_eq!(rt; outcome(&[], &[], &[]), 0);
-        assert_eq!(rt; outcome(&[], &[Row::blank()], &[]), 0);
+        assert_eq!(rt; outcome(&declarations(), &rows(), &nodes()), Ok(()));
+        assert_eq!(rt; outcome(&[], &[], &[]), Ok(()));
+        assert_eq!(rt; outcome(&[], &[Row::default()], &[]), Ok(()));
     }
 
     #[test]
     fn refuses_random_lists(rt: HostRuntime) {
         'each: for from in 0..1000u32 {
-            assert_eq!(rt; with_random(from), 13);
+            assert_eq!(rt; with_random(from), refused());
         }
     }
 
@@ -230,7 +212,7 @@ mod tests {
                     end_row: 6,
                 },
             ),
-            13
+            refused()
         );
         assert_eq!(rt;
             with_row(
@@ -240,10 +222,10 @@ mod tests {
                     else_row: 5,
                 },
             ),
-            13
+            refused()
         );
-        assert_eq!(rt; with_row(3, Row::Else { end_row: 4 }), 13);
-        assert_eq!(rt; with_row(7, Row::EndWhile { while_row: 1 }), 13);
+        assert_eq!(rt; with_row(3, Row::Else { end_row: 4 }), refused());
+        assert_eq!(rt; with_row(7, Row::EndWhile { while_row: 1 }), refused());
         assert_eq!(rt;
             with_row(
                 0,
@@ -252,16 +234,16 @@ mod tests {
                     end_row: usize::MAX,
                 },
             ),
-            13
+            refused()
         );
     }
 
     #[test]
     fn refuses_open_and_stray_rows(rt: HostRuntime) {
-        assert_eq!(rt; with_row(0, Row::Skip), 13);
-        assert_eq!(rt; with_row(7, Row::Skip), 13);
-        assert_eq!(rt; with_row(4, Row::EndIf), 13);
-        assert_eq!(rt; with_row(5, Row::EndWhile { while_row: 0 }), 13);
+        assert_eq!(rt; with_row(0, Row::Skip), refused());
+        assert_eq!(rt; with_row(7, Row::Skip), refused());
+        assert_eq!(rt; with_row(4, Row::EndIf), refused());
+        assert_eq!(rt; with_row(5, Row::EndWhile { while_row: 0 }), refused());
     }
 
     #[test]
@@ -274,7 +256,7 @@ mod tests {
                     value: 11,
                 },
             ),
-            13
+            refused()
         );
         assert_eq!(rt;
             with_row(
@@ -284,7 +266,7 @@ mod tests {
                     value: usize::MAX,
                 },
             ),
-            13
+            refused()
         );
         assert_eq!(rt;
             with_row(
@@ -294,27 +276,27 @@ mod tests {
                     value: 7,
                 },
             ),
-            13
+            refused()
         );
-        assert_eq!(rt; with_node(10, Node::Variable(2)), 13);
-        assert_eq!(rt; with_node(10, Node::Apply(Operator::Add)), 13);
+        assert_eq!(rt; with_node(10, Node::Variable(2)), refused());
+        assert_eq!(rt; with_node(10, Node::Apply(Operator::Add)), refused());
     }
 
     #[test]
     fn refuses_other_node_counts(rt: HostRuntime) {
         let all = nodes();
-        assert_eq!(rt; outcome(&declarations(), &rows(), &all[0..10]), 13);
-        assert_eq!(rt; outcome(&declarations(), &[], &all[0..1]), 13);
-        assert_eq!(rt; with_node(2, Node::Apply(Operator::Or)), 13);
-        assert_eq!(rt; with_node(0, Node::Numeral(0)), 13);
+        assert_eq!(rt; outcome(&declarations(), &rows(), &all[0..10]), refused());
+        assert_eq!(rt; outcome(&declarations(), &[], &all[0..1]), refused());
+        assert_eq!(rt; with_node(2, Node::Apply(Operator::Or)), refused());
+        assert_eq!(rt; with_node(0, Node::Numeral(0)), refused());
     }
 
     #[test]
     fn refuses_large_numbers(rt: HostRuntime) {
-        assert_eq!(rt; with_node(1, Node::Numeral(2147483647)), 0);
-        assert_eq!(rt; with_node(1, Node::Numeral(2147483648)), 13);
-        assert_eq!(rt; with_row(4, Row::Stop { number: 2147483647 }), 0);
-        assert_eq!(rt; with_row(4, Row::Stop { number: 2147483648 }), 13);
+        assert_eq!(rt; with_node(1, Node::Numeral(2147483647)), Ok(()));
+        assert_eq!(rt; with_node(1, Node::Numeral(2147483648)), refused());
+        assert_eq!(rt; with_row(4, Row::Stop { number: 2147483647 }), Ok(()));
+        assert_eq!(rt; with_row(4, Row::Stop { number: 2147483648 }), refused());
         assert_eq!(rt;
             with_row(
                 8,
@@ -323,35 +305,39 @@ mod tests {
                     value: 10,
                 },
             ),
-            13
+            refused()
         );
     }
 
     #[test]
     fn refuses_bad_names(rt: HostRuntime) {
-        assert_eq!(rt; with_declaration(declaration(b'y', 0, 0)), 13);
-        assert_eq!(rt; with_declaration(declaration(b'1', b'y', 0)), 13);
-        assert_eq!(rt; with_declaration(declaration(b'i', b'f', 0)), 13);
-        assert_eq!(rt; with_declaration(declaration(b'x', b'_', 0)), 13);
-        assert_eq!(rt; with_declaration(declaration(b'y', b'2', 2147483648)), 13);
-        assert_eq!(rt; with_declaration(Declaration::blank()), 13);
+        assert_eq!(rt; with_declaration(declaration(b'y', 0, 0)), refused());
+        assert_eq!(rt; with_declaration(declaration(b'1', b'y', 0)), refused());
+        assert_eq!(rt; with_declaration(declaration(b'i', b'f', 0)), refused());
+        assert_eq!(rt; with_declaration(declaration(b'x', b'_', 0)), refused());
+        assert_eq!(rt;
+            with_declaration(declaration(b'y', b'2', 2147483648)),
+            refused()
+        );
+        assert_eq!(rt; with_declaration(Declaration::default()), refused());
     }
 
     #[test]
     fn refuses_unpadded_names(rt: HostRuntime) {
         let mut changed = declaration(b'y', b'1', 0);
         changed.name.bytes[14] = b'z';
-        assert_eq!(rt; with_declaration(changed), 13);
+        assert_eq!(rt; with_declaration(changed), refused());
         changed.name.length = 15;
-        assert_eq!(rt; with_declaration(changed), 13);
+        assert_eq!(rt; with_declaration(changed), refused());
         changed.name.length = 16;
-        assert_eq!(rt; with_declaration(changed), 13);
+        assert_eq!(rt; with_declaration(changed), refused());
     }
 
     #[test]
     fn counts_declarations(rt: HostRuntime) {
-        assert_eq!(rt; with_count(256), 0);
-        assert_eq!(rt; with_count(257), 13);
+        let all = many();
+        assert_eq!(rt; outcome(&all[0..256], &[], &[]), Ok(()));
+        assert_eq!(rt; outcome(&all, &[], &[]), refused());
     }
 
     #[test]

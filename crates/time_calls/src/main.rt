@@ -62,9 +62,9 @@ fn run(rt: &HostRuntime) -> anyhow::Result<()> {
         .take(TEXT_BYTES as u64 + 1)
         .read_to_end(&mut text)?;
     // the shortest statement of one row has 5 bytes, and an expression has fewer nodes than half the bytes of its statement
-    let mut declarations = vec![in heap; Declaration::blank(); VARIABLES]?;
-    let mut rows = vec![in heap; Row::blank(); text.len() / 5]?;
-    let mut nodes = vec![in heap; Node::blank(); text.len() / 2]?;
+    let mut declarations = vec![in heap; Declaration::default(); VARIABLES]?;
+    let mut rows = vec![in heap; Row::default(); text.len() / 5]?;
+    let mut nodes = vec![in heap; Node::default(); text.len() / 2]?;
     match read(&text, &mut declarations, &mut rows, &mut nodes) {
         Ok(used) => {
             let reading = time_read(rt, &text, &mut declarations, &mut rows, &mut nodes)?;

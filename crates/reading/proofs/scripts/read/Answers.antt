@@ -17,11 +17,11 @@ returns-then-has_room c =
     let d = length c.args.declarations.now in
     let r = length c.args.rows.now in
     let n = length c.args.nodes.now in
-    let e_d = c.blank-then-has_room.ensures ∙ ap (λ x. take u.declarations ds ++ replicate (length ds - u.declarations) x) c.blank.ensures in
-    let e_r = c.blank-then-has_room-3.ensures ∙ ap (λ x. take u.rows rs ++ replicate (length rs - u.rows) x) c.blank-then-has_room-2.ensures in
-    let e_n = c.blank-then-has_room-5.ensures ∙ ap (λ x. take u.nodes ns ++ replicate (length ns - u.nodes) x) c.blank-then-has_room-4.ensures in
-    subst (λ x. Accepted c.args.text.now d r n x c.blank-then-has_room-3.new.xs c.blank-then-has_room-5.new.xs u) (sym e_d)
-    (subst (λ x. Accepted c.args.text.now d r n (take u.declarations ds ++ replicate (length ds - u.declarations) blank_declaration) x c.blank-then-has_room-5.new.xs u) (sym e_r)
+    let e_d = c.blank.ensures ∙ ap (λ x. take u.declarations ds ++ replicate (length ds - u.declarations) x) c.default.ensures in
+    let e_r = c.blank-then-has_room.ensures ∙ ap (λ x. take u.rows rs ++ replicate (length rs - u.rows) x) c.default-then-has_room.ensures in
+    let e_n = c.blank-then-has_room-2.ensures ∙ ap (λ x. take u.nodes ns ++ replicate (length ns - u.nodes) x) c.default-then-has_room-2.ensures in
+    subst (λ x. Accepted c.args.text.now d r n x c.blank-then-has_room.new.xs c.blank-then-has_room-2.new.xs u) (sym e_d)
+    (subst (λ x. Accepted c.args.text.now d r n (take u.declarations ds ++ replicate (length ds - u.declarations) blank_declaration) x c.blank-then-has_room-2.new.xs u) (sym e_r)
     (subst (λ x. Accepted c.args.text.now d r n (take u.declarations ds ++ replicate (length ds - u.declarations) blank_declaration) (take u.rows rs ++ replicate (length rs - u.rows) Skip) x u) (sym e_n) A))
 
 pub returns-else-has_room : goal.returns-else-has_room

@@ -1,7 +1,10 @@
--- The names before i differ from all behind them.
-use Rattle.std.proofs.Common.{◌≡◌, drop}
+-- The names before the rest differ from all behind them.
+use Rattle.std.proofs.Common.{◌≡◌, length}
 use Rattle.syntax.specs.Names.{distinct, spellings}
 use Rattle.syntax.proofs.names.all_distinct.Given as goal
 
 abbrev pub invariant-each : goal.invariant-each
-invariant-each l = distinct (spellings l.declarations) ≡ distinct (spellings (drop l.i l.declarations))
+invariant-each l = distinct (spellings l.declarations) ≡ distinct (spellings l.rest)
+
+abbrev pub decreases-each : goal.decreases-each
+decreases-each l = length l.rest

@@ -1,20 +1,15 @@
--- One declaration a turn.
-use Rattle.std.proofs.Common.{◌+◌, ◌||◌, drop, sym, ap, ◌∙◌, arith}
-use Rattle.syntax.specs.Names.{among, spelled, spellings}
-use Rattle.syntax.proofs.Spelled.{among-more, among_end}
+-- One of the declarations has the name if it is among their names.
+use Rattle.std.proofs.Common.{◌∙◌, rules}
+use Rattle.std.proofs.lemmas.Iterator.{YieldsList-from_slice}
+use Rattle.std.proofs.lemmas.Iterator.Search.{any_from_yields_List}
+use Rattle.std.specs.Str.{bytes_eq}
+use borrow.Author.Tests.{tests}
+use Rattle.syntax.specs.Names.{spelled}
+use Rattle.syntax.proofs.Spelled.{among_names}
 use Rattle.syntax.proofs.names.is_among.Goals as goal
 
-pub returns-then-same_name : goal.returns-then-same_name
-returns-then-same_name c =
-    let ds = c.args.declarations.now in
-    let w = spelled c.args.name.now in
-    sym (c.each.invariant ∙ among-more ds c.each.i w (omega arith) ∙ ap (λ x. x || among w (spellings (drop (c.each.i + 1) ds))) (sym c.if-same_name.ensures))
-
-pub each-preserved : goal.each-preserved
-each-preserved c =
-    let ds = c.args.declarations.now in
-    let w = spelled c.args.name.now in
-    c.each.invariant ∙ among-more ds c.each.i w (omega arith) ∙ ap (λ x. x || among w (spellings (drop (c.each.i + 1) ds))) (sym c.if-same_name.ensures)
-
 pub returns : goal.returns
-returns c = sym (c.each.invariant ∙ among_end c.args.declarations.now c.each.i (spelled c.args.name.now) (omega arith))
+returns c =
+    let w = spelled c.args.name.now in
+    any_from_yields_List (λ d. bytes_eq w (spelled d.name)) _ _ _ c.any.ensures.ran (YieldsList-from_slice c.args.declarations.now cc) (λ x b q k. search (rules, tests))
+    ∙ among_names w c.args.declarations.now
