@@ -1,15 +1,13 @@
 -- The token at the front of a text, by what its first byte is.
-use Rattle.std.proofs.Common.{◌≡◌, ℕ, ◌<◌, ◌≤◌, Bool, true, false, cond, ◌&&◌, eqb, List, [], ◌∷◌, length, get_or, take, drop, sym, refl, ap, ◌∙◌, ⊎_elim, add-zero, arith, get_or-drop, eq-eqb}
+use Rattle.std.proofs.Common.{◌≡◌, ℕ, ◌<◌, Bool, true, false, cond, ◌&&◌, eqb, List, [], ◌∷◌, length, get_or, take, sym, refl, ap, ◌∙◌, ⊎_elim, arith, eq-eqb}
 use Rattle.std.specs.List.{prefix_len}
 use Rattle.std.proofs.lemmas.Bool.{cond-true, cond-false, cases_Bool, and_parts, eqb-true, true≢false}
 use Rattle.std.proofs.lemmas.Bool.Decides.{nat_tests}
-use Rattle.std.proofs.lemmas.List.{drop_all}
-use Rattle.letters.specs.declared.symbols.Symbol.TheVariants.{Assign}
 use Rattle.letters.specs.declared.classes.Class.{Class}
 use Rattle.letters.specs.declared.classes.Class.TheVariants.{Stranger, Letter, Digit, Blank, Symbol}
 use Rattle.letters.specs.Classes.{is_letter, is_digit, is_word, is_blank, is_symbol, class_of}
 use Rattle.letters.specs.Symbols.{symbol_of}
-use Rattle.letters.specs.Tokens.{end, symbol, word_lexeme, digits_lexeme, marked, lexeme}
+use Rattle.letters.specs.Tokens.{word_lexeme, digits_lexeme, marked, lexeme}
 
 pub front_word : (bs : List ℕ) → 0 < length bs → is_letter (get_or bs 0 0) ≡ true → lexeme bs ≡ (word_lexeme (take (prefix_len is_word bs) bs), prefix_len is_word bs)
 front_word [] h l = absurd (omega arith)
@@ -19,13 +17,6 @@ pub front_digits : (bs : List ℕ) → 0 < length bs → is_letter (get_or bs 0 
 front_digits [] h l d = absurd (omega arith)
 front_digits (c ∷ cs) h l d = cond-false _ _ _ l ∙ cond-true _ _ _ d
 
-pub front_assign : (bs : List ℕ) → 1 < length bs → is_letter (get_or bs 0 0) ≡ false → is_digit (get_or bs 0 0) ≡ false → get_or bs 0 0 ≡ 58 → get_or bs 1 0 ≡ 61 → lexeme bs ≡ (symbol Assign, 2)
-front_assign [] h l d a b = absurd (omega arith)
-front_assign (c ∷ []) h l d a b = absurd (omega arith)
-front_assign (c ∷ e ∷ cs) h l d a b =
-    let t : (eqb c 58 && eqb e 61) ≡ true = grind (arith, nat_tests) in
-    cond-false _ _ _ l ∙ cond-false _ _ _ d ∙ cond-true _ _ _ t
-
 pub front_mark : (bs : List ℕ) → 0 < length bs → is_letter (get_or bs 0 0) ≡ false → is_digit (get_or bs 0 0) ≡ false → (get_or bs 0 0 ≡ 58 → 1 < length bs → get_or bs 1 0 ≡ 61 → ⊥) → lexeme bs ≡ marked (symbol_of (get_or bs 0 0))
 front_mark [] h l d n = absurd (omega arith)
 front_mark (c ∷ []) h l d n =
@@ -34,13 +25,6 @@ front_mark (c ∷ []) h l d n =
 front_mark (c ∷ e ∷ cs) h l d n =
     let t : (eqb c 58 && eqb e 61) ≡ false = ⊎_elim (λ y. absurd (n (eqb-true c 58 (and_parts _ _ y).0) (omega arith) (eqb-true e 61 (and_parts _ _ y).1))) (λ f. f) (cases_Bool (eqb c 58 && eqb e 61)) in
     cond-false _ _ _ l ∙ cond-false _ _ _ d ∙ cond-false _ _ _ t
-
-pub front_end : (text : List ℕ) (at : ℕ) → length text ≤ at → lexeme (drop at text) ≡ (end, 0)
-front_end text at h = rw (drop_all at text h)
-
--- what stands first in a rest
-pub first : (text : List ℕ) (at : ℕ) → get_or (drop at text) 0 0 ≡ get_or text at 0
-first text at = get_or-drop at text 0 0 ∙ ap (λ i. get_or text i 0) (add-zero at)
 
 -- what a class says of a byte
 number : Class → ℕ

@@ -5,6 +5,5 @@ pub mod Going
 pub mod Looks
 pub mod Marks
 pub mod Parts
-pub mod Runs
 pub mod Spans
 pub mod Unique

@@ -1,6 +1,8 @@
 // The keywords.
-ghost use Rattle.std.specs.Prelude.{◌≡◌};
+ghost use Rattle.std.specs.Prelude.{◌≡◌, Some, None, MatchResult};
 ghost use Rattle.letters.specs.Keywords.{keyword_of, keyword_bytes};
+
+use std::str::FromStr;
 
 #[derive(Clone, Copy, PartialEq, Eq, Debug)]
 pub enum Keyword {
@@ -18,24 +20,32 @@ pub enum Keyword {
     Max,
 }
 
+// What a word is that is no keyword.
+#[derive(Clone, Copy, PartialEq, Eq, Debug)]
+pub struct NotAKeyword;
+
 // The keyword that a word of text is.
-fn keyword_named(word: &str) -> Option<Keyword>
-    ensures { result ≡ keyword_of word.now }
-{
-    match word {
-        "var" => Some(Keyword::Var),
-        "skip" => Some(Keyword::Skip),
-        "if" => Some(Keyword::If),
-        "then" => Some(Keyword::Then),
-        "else" => Some(Keyword::Else),
-        "end" => Some(Keyword::End),
-        "while" => Some(Keyword::While),
-        "do" => Some(Keyword::Do),
-        "write" => Some(Keyword::Write),
-        "stop" => Some(Keyword::Stop),
-        "declassify" => Some(Keyword::Declassify),
-        "max" => Some(Keyword::Max),
-        _ => None,
+impl FromStr for Keyword {
+    type Err = NotAKeyword;
+
+    ghost from_str_gives = { λ word told. MatchResult told (λ k. keyword_of word ≡ Some k) (λ _. keyword_of word ≡ None) };
+
+    fn from_str(word: &str) -> Result<Keyword, NotAKeyword> {
+        match word {
+            "var" => Ok(Keyword::Var),
+            "skip" => Ok(Keyword::Skip),
+            "if" => Ok(Keyword::If),
+            "then" => Ok(Keyword::Then),
+            "else" => Ok(Keyword::Else),
+            "end" => Ok(Keyword::End),
+            "while" => Ok(Keyword::While),
+            "do" => Ok(Keyword::Do),
+            "write" => Ok(Keyword::Write),
+            "stop" => Ok(Keyword::Stop),
+            "declassify" => Ok(Keyword::Declassify),
+            "max" => Ok(Keyword::Max),
+            _ => Err(NotAKeyword),
+        }
     }
 }
 
@@ -43,10 +53,7 @@ fn keyword_named(word: &str) -> Option<Keyword>
 pub fn keyword_of(word: &[u8]) -> Option<Keyword>
     ensures { result ≡ keyword_of word.now }
 {
-    match std::str::from_utf8(word) {
-        Ok(text) => keyword_named(text),
-        Err(_) => None,
-    }
+    std::str::from_utf8(word).ok()?.parse().ok()
 }
 
 impl Keyword {

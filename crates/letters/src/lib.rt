@@ -8,9 +8,9 @@ mod symbols;
 mod texts;
 mod tokens;
 
-pub use classes::{Class, class_of, is_digit, is_word};
-pub use keywords::{Keyword, keyword_of};
+pub use classes::{Class, is_digit, is_word};
+pub use keywords::{Keyword, NotAKeyword, keyword_of};
 pub use numerals::numeral_value;
-pub use symbols::{Symbol, symbol_of};
+pub use symbols::{NotASymbol, Symbol};
 pub use texts::{ScanError, TEXT_BYTES, scan, token_laws};
 pub use tokens::{Lexed, Token, next_token};

@@ -1,5 +1,5 @@
 // The symbols of one byte, and `:=`.
-ghost use Rattle.std.specs.Prelude.{◌≡◌};
+ghost use Rattle.std.specs.Prelude.{◌≡◌, Some, None, MatchResult};
 ghost use Rattle.letters.specs.Symbols.{symbol_of, symbol_bytes};
 
 #[derive(Clone, Copy, PartialEq, Eq, Debug)]
@@ -18,23 +18,31 @@ pub enum Symbol {
     Bar,
 }
 
+// What a character is that alone is no symbol.
+#[derive(Clone, Copy, PartialEq, Eq, Debug)]
+pub struct NotASymbol;
+
 // The symbol that a character alone is.
-pub fn symbol_of(c: char) -> Option<Symbol>
-    ensures { result ≡ symbol_of c }
-{
-    match c {
-        ':' => Some(Symbol::Colon),
-        ';' => Some(Symbol::Semicolon),
-        '(' => Some(Symbol::Open),
-        ')' => Some(Symbol::Close),
-        '+' => Some(Symbol::Plus),
-        '-' => Some(Symbol::Minus),
-        '*' => Some(Symbol::Times),
-        '/' => Some(Symbol::Over),
-        '=' => Some(Symbol::Equals),
-        '<' => Some(Symbol::Less),
-        '|' => Some(Symbol::Bar),
-        _ => None,
+impl TryFrom<char> for Symbol {
+    type Error = NotASymbol;
+
+    ghost try_from_gives = { λ c told. MatchResult told (λ s. symbol_of c ≡ Some s) (λ _. symbol_of c ≡ None) };
+
+    fn try_from(c: char) -> Result<Symbol, NotASymbol> {
+        match c {
+            ':' => Ok(Symbol::Colon),
+            ';' => Ok(Symbol::Semicolon),
+            '(' => Ok(Symbol::Open),
+            ')' => Ok(Symbol::Close),
+            '+' => Ok(Symbol::Plus),
+            '-' => Ok(Symbol::Minus),
+            '*' => Ok(Symbol::Times),
+            '/' => Ok(Symbol::Over),
+            '=' => Ok(Symbol::Equals),
+            '<' => Ok(Symbol::Less),
+            '|' => Ok(Symbol::Bar),
+            _ => Err(NotASymbol),
+        }
     }
 }
 

@@ -3,16 +3,33 @@ ghost use Rattle.std.specs.Prelude.{◌≡◌, ◌≤◌, length, MatchResult};
 ghost use Rattle.letters.specs.Texts.{MadeOf, finished, pieces, OneWay, NoneLonger};
 ghost use Rattle.letters.specs.Keywords.{KeywordsWritten};
 ghost use Rattle.letters.specs.Scans.{Failed};
+ghost use Rattle.letters.specs.declared.texts.ScanError.TheVariants.{Refused, NoMemory};
 
 use super::tokens::{Lexed, Token, next_token};
 use refusals::{Reason, Refusal};
-use std::alloc::Global;
+use std::alloc::{AllocFailed, Global};
 
 // Why a text has no list of tokens.
 #[derive(Clone, Copy, Debug)]
 pub enum ScanError {
     Refused(Refusal),
     NoMemory,
+}
+
+impl From<Refusal> for ScanError {
+    ghost from_gives = { λ refusal e. e ≡ Refused refusal };
+
+    fn from(refusal: Refusal) -> ScanError {
+        ScanError::Refused(refusal)
+    }
+}
+
+impl<T: Drop> From<AllocFailed<T>> for ScanError {
+    ghost from_gives = { λ _ e. e ≡ NoMemory };
+
+    fn from(_failed: AllocFailed<T>) -> ScanError {
+        ScanError::NoMemory
+    }
 }
 
 // the longest text
@@ -24,23 +41,17 @@ pub fn scan<'a>(heap: Global, text: &'a [u8]) -> Result<Vec<Lexed<'a>>, ScanErro
     ensures { MatchResult result (λ v. (length text.now ≤ 1048576) × MadeOf 0 text.now (pieces v.items) finished) (λ e. Failed text.now e) }
 {
     if text.len() > TEXT_BYTES {
-        return Err(ScanError::Refused(Refusal::new(Reason::TextTooLong, 0)));
+        return Err(Refusal::new(Reason::TextTooLong, 0).into());
     }
     let mut found = Vec::new(heap);
     let mut at = 0;
     'each: loop {
-        match next_token(text, at) {
-            Ok(lexed) => {
-                if let Token::End = lexed.token {
-                    return Ok(found);
-                }
-                at = lexed.end;
-                if found.push(lexed).is_err() {
-                    return Err(ScanError::NoMemory);
-                }
-            }
-            Err(refusal) => return Err(ScanError::Refused(refusal)),
+        let lexed = next_token(text, at)?;
+        if let Token::End = lexed.token {
+            return Ok(found);
         }
+        found.push(lexed)?;
+        at = lexed.end;
     }
 }
 

@@ -1,13 +1,13 @@
 // The token at a place of a text.
-ghost use Rattle.std.specs.Prelude.{◌≡◌, ℕ, ◌+◌, ◌-◌, ◌<◌, ◌≤◌, true, false, length, drop, slice_index};
+ghost use Rattle.std.specs.Prelude.{◌≡◌, ℕ, ◌≤◌, Bool, false, length, IfOk, MatchResult};
 ghost use Rattle.std.specs.List.{prefix_len};
-ghost use Rattle.letters.specs.Classes.{is_letter, is_word, is_digit, is_blank};
-ghost use Rattle.letters.specs.Tokens.{lexeme, word_lexeme, digits_lexeme, seen, told, next_at, Inside};
+ghost use Rattle.letters.specs.Classes.{is_letter, is_digit, begins};
+ghost use Rattle.letters.specs.Tokens.{lexeme, marked, word_lexeme, digits_lexeme, broken, view, seen, told, next_at, Inside};
 
-use super::classes::{Class, class_of, is_digit, is_word};
+use super::classes::{Class, is_blank, is_digit, is_word};
 use super::keywords::{Keyword, keyword_of};
 use super::numerals::numeral_value;
-use super::symbols::{Symbol, symbol_of};
+use super::symbols::Symbol;
 use refusals::{Reason, Refusal};
 
 // A token. A name and a numeral borrow their bytes from the text.
@@ -32,52 +32,13 @@ pub struct Lexed<'a> {
 // the longest name
 const NAME_BYTES: usize = 15;
 
-fn is_blank(byte: u8) -> bool
-    ensures { result ≡ is_blank byte }
+// How many bytes in front pass a test, up to the first that does not.
+fn run<F: Fn(u8) -> bool>(bytes: &[u8], test: F) -> usize
+    requires { F.IsAlwaysCallable test }
+    ensures within { result ≤ length bytes.now }
+    ensures stop { (p : ℕ → Bool) → ((b : ℕ) (r : Bool) → F.post test b r → r ≡ p b) → result ≡ prefix_len p bytes.now }
 {
-    match class_of(byte) {
-        Class::Blank => true,
-        Class::Letter | Class::Digit | Class::Symbol | Class::Stranger => false,
-    }
-}
-
-// The place of the first byte from `at` on that is no blank.
-fn skip_blanks(text: &[u8], at: usize) -> usize
-    requires { at ≤ length text.now }
-    ensures within { (at ≤ result) × (result ≤ length text.now) }
-    ensures start { result ≡ at + prefix_len is_blank (drop at text.now) }
-{
-    let mut p = at;
-    'each: while p < text.len() && is_blank(text[p]) {
-        p += 1;
-    }
-    p
-}
-
-// The place behind the letters and digits from `at` on.
-fn word_end(text: &[u8], at: usize) -> usize
-    requires { at ≤ length text.now }
-    ensures within { (at ≤ result) × (result ≤ length text.now) }
-    ensures stop { result ≡ at + prefix_len is_word (drop at text.now) }
-{
-    let mut p = at;
-    'each: while p < text.len() && is_word(text[p]) {
-        p += 1;
-    }
-    p
-}
-
-// The place behind the digits from `at` on.
-fn digits_end(text: &[u8], at: usize) -> usize
-    requires { at ≤ length text.now }
-    ensures within { (at ≤ result) × (result ≤ length text.now) }
-    ensures stop { result ≡ at + prefix_len is_digit (drop at text.now) }
-{
-    let mut p = at;
-    'each: while p < text.len() && is_digit(text[p]) {
-        p += 1;
-    }
-    p
+    bytes.iter().take_while(|byte| test(**byte)).count()
 }
 
 // A run of letters and digits: a keyword, or a name of at most 15 bytes.
@@ -86,13 +47,8 @@ fn word_token<'a>(word: &'a [u8]) -> Result<Token<'a>, Reason>
 {
     match keyword_of(word) {
         Some(keyword) => Ok(Token::Keyword(keyword)),
-        None => {
-            if word.len() <= NAME_BYTES {
-                Ok(Token::Name(word))
-            } else {
-                Err(Reason::Malformed)
-            }
-        }
+        None if word.len() <= NAME_BYTES => Ok(Token::Name(word)),
+        None => Err(Reason::Malformed),
     }
 }
 
@@ -100,51 +56,45 @@ fn word_token<'a>(word: &'a [u8]) -> Result<Token<'a>, Reason>
 fn digits_token<'a>(digits: &'a [u8]) -> Result<Token<'a>, Reason>
     ensures { seen result ≡ digits_lexeme digits.now }
 {
-    match numeral_value(digits) {
-        Some(value) => Ok(Token::Numeral { digits, value }),
-        None => Err(Reason::Malformed),
+    let value = numeral_value(digits).ok_or(Reason::Malformed)?;
+    Ok(Token::Numeral { digits, value })
+}
+
+// The symbol in front, and how many bytes it has.
+fn symbol_token<'a>(text: &'a [u8]) -> Result<(Token<'a>, usize), Reason>
+    requires letterless { begins is_letter text.now ≡ false }
+    requires digitless { begins is_digit text.now ≡ false }
+    ensures within { IfOk result (λ t. t.1 ≤ length text.now) }
+    ensures token { MatchResult result (λ t. lexeme text.now ≡ (view t.0, t.1)) (λ r. (lexeme text.now).0 ≡ broken r) }
+{
+    match text {
+        [] => Ok((Token::End, 0)),
+        [b':', b'=', ..] => Ok((Token::Symbol(Symbol::Assign), 2)),
+        [byte, ..] => match Symbol::try_from(*byte as char) {
+            Ok(symbol) => Ok((Token::Symbol(symbol), 1)),
+            Err(_) => Err(Reason::StrayByte),
+        },
     }
 }
 
-// The symbol at `at`, and the place behind it.
-fn symbol_at<'a>(text: &'a [u8], at: usize) -> (Result<Token<'a>, Reason>, usize)
-    requires within { at < length text.now }
-    requires letterless { is_letter (slice_index text.now at) ≡ false }
-    requires digitless { is_digit (slice_index text.now at) ≡ false }
-    ensures within { (at ≤ result.1) × (result.1 ≤ length text.now) }
-    ensures token { seen result.0 ≡ (lexeme (drop at text.now)).0 }
-    ensures behind { result.1 ≡ at + (lexeme (drop at text.now)).1 }
+// The token in front, where no blank stands, and how many bytes it has.
+fn front_token<'a>(text: &'a [u8]) -> Result<(Token<'a>, usize), Reason>
+    ensures within { IfOk result (λ t. t.1 ≤ length text.now) }
+    ensures token { MatchResult result (λ t. lexeme text.now ≡ (view t.0, t.1)) (λ r. (lexeme text.now).0 ≡ broken r) }
 {
-    let next = at + 1;
-    if text[at] == b':' && next < text.len() && text[next] == b'=' {
-        return (Ok(Token::Symbol(Symbol::Assign)), at + 2);
-    }
-    match symbol_of(text[at] as char) {
-        Some(symbol) => (Ok(Token::Symbol(symbol)), at + 1),
-        None => (Err(Reason::StrayByte), at),
-    }
-}
-
-// The token at `at`, where no blank stands, and the place behind it.
-fn token_at<'a>(text: &'a [u8], at: usize) -> (Result<Token<'a>, Reason>, usize)
-    requires { at ≤ length text.now }
-    ensures within { (at ≤ result.1) × (result.1 ≤ length text.now) }
-    ensures token { seen result.0 ≡ (lexeme (drop at text.now)).0 }
-    ensures behind { result.1 ≡ at + (lexeme (drop at text.now)).1 }
-{
-    if at >= text.len() {
-        return (Ok(Token::End), at);
-    }
-    match class_of(text[at]) {
+    let Some(first) = text.first() else {
+        return Ok((Token::End, 0));
+    };
+    match Class::from(*first) {
         Class::Letter => {
-            let end = word_end(text, at);
-            (word_token(&text[at..end]), end)
+            let length = run(text, is_word);
+            Ok((word_token(&text[..length])?, length))
         }
         Class::Digit => {
-            let end = digits_end(text, at);
-            (digits_token(&text[at..end]), end)
+            let length = run(text, is_digit);
+            Ok((digits_token(&text[..length])?, length))
         }
-        Class::Symbol | Class::Blank | Class::Stranger => symbol_at(text, at),
+        Class::Symbol | Class::Blank | Class::Stranger => symbol_token(text),
     }
 }
 
@@ -153,11 +103,14 @@ pub fn next_token<'a>(text: &'a [u8], at: usize) -> Result<Lexed<'a>, Refusal>
     ensures next { told result ≡ next_at text.now at }
     ensures inside { Inside text.now at (told result) }
 {
-    let from = if at < text.len() { at } else { text.len() };
-    let start = skip_blanks(text, from);
-    let (token, end) = token_at(text, start);
-    match token {
-        Ok(token) => Ok(Lexed { token, start, end }),
+    let from = at.min(text.len());
+    let start = from + run(&text[from..], is_blank);
+    match front_token(&text[start..]) {
+        Ok((token, length)) => Ok(Lexed {
+            token,
+            start,
+            end: start + length,
+        }),
         Err(reason) => Err(Refusal::new(reason, start)),
     }
 }

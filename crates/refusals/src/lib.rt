@@ -1,11 +1,8 @@
 // Refusals: why a call turned its input away, and where.
 #![tactic(auto)]
 
-ghost use Rattle.std.specs.Prelude.{◌≡◌, Some, Decides, nat_eq};
+ghost use Rattle.std.specs.Prelude.{◌≡◌, Some};
 ghost use Rattle.refusals.specs.Reasons.{reason_number, reason_layer, shown_refusal, NumbersDiffer};
-ghost use Rattle.std.specs.Cmp.Rules.{comparing};
-ghost use Rattle.std.proofs.Common.{rules};
-ghost use Rattle.std.specs.Ordering.{on};
 
 use std::fmt;
 
@@ -21,43 +18,43 @@ pub enum Layer {
     State,
 }
 
-// Why something was refused, in the order of the numbers.
-#[derive(Clone, Copy, Eq, Debug)]
+// Why something was refused, with the number by which it is known.
+#[derive(Clone, Copy, Debug, PartialEq, Eq)]
 pub enum Reason {
-    // 1: a byte that begins no token
-    StrayByte,
-    // 2: a numeral or a name against its rule
-    Malformed,
-    // 3: a token that is not allowed here, or the text ended
-    Unexpected,
-    // 4: a name that is not declared
-    Undeclared,
-    // 5: a name declared twice, or a 257th declaration
-    BadDeclaration,
-    // 6: nesting or depth above 20
-    TooDeep,
-    // 7: a list or a buffer too short
-    NoRoom,
-    // 8: a text too long
-    TextTooLong,
-    // 9: a number that is no code of the family
-    NotACode,
-    // 10: `stop`, or a name that begins with `_`, in a script to rewrite
-    Reserved,
-    // 11: more than 64 variables, or nesting or depth above 16, in a script to rewrite
-    TooLarge,
-    // 12: a bank with fewer registers than variables
-    BankTooSmall,
-    // 13: lists that are no program's form
-    NotAForm,
-    // 14: no such variable, or its name begins with `_`
-    NoSuchVariable,
-    // 21: finishing while there is more to do
-    MoreToDo,
-    // 22: a line at or beyond the count
-    NoSuchLine,
-    // 23: a bank with too few registers, or a sheet shorter than the lines kept
-    TooShort,
+    // a byte that begins no token
+    StrayByte = 1,
+    // a numeral or a name against its rule
+    Malformed = 2,
+    // a token that is not allowed here, or the text ended
+    Unexpected = 3,
+    // a name that is not declared
+    Undeclared = 4,
+    // a name declared twice, or a 257th declaration
+    BadDeclaration = 5,
+    // nesting or depth above 20
+    TooDeep = 6,
+    // a list or a buffer too short
+    NoRoom = 7,
+    // a text too long
+    TextTooLong = 8,
+    // a number that is no code of the family
+    NotACode = 9,
+    // `stop`, or a name that begins with `_`, in a script to rewrite
+    Reserved = 10,
+    // more than 64 variables, or nesting or depth above 16, in a script to rewrite
+    TooLarge = 11,
+    // a bank with fewer registers than variables
+    BankTooSmall = 12,
+    // lists that are no program's form
+    NotAForm = 13,
+    // no such variable, or its name begins with `_`
+    NoSuchVariable = 14,
+    // finishing while there is more to do
+    MoreToDo = 21,
+    // a line at or beyond the count
+    NoSuchLine = 22,
+    // a bank with too few registers, or a sheet shorter than the lines kept
+    TooShort = 23,
 }
 
 impl Reason {
@@ -65,25 +62,7 @@ impl Reason {
     pub fn number(self) -> u8
         ensures { result ≡ reason_number self }
     {
-        match self {
-            Reason::StrayByte => 1,
-            Reason::Malformed => 2,
-            Reason::Unexpected => 3,
-            Reason::Undeclared => 4,
-            Reason::BadDeclaration => 5,
-            Reason::TooDeep => 6,
-            Reason::NoRoom => 7,
-            Reason::TextTooLong => 8,
-            Reason::NotACode => 9,
-            Reason::Reserved => 10,
-            Reason::TooLarge => 11,
-            Reason::BankTooSmall => 12,
-            Reason::NotAForm => 13,
-            Reason::NoSuchVariable => 14,
-            Reason::MoreToDo => 21,
-            Reason::NoSuchLine => 22,
-            Reason::TooShort => 23,
-        }
+        self as u8
     }
 
     // The layer that the reason belongs to.
@@ -109,19 +88,6 @@ impl Reason {
             Reason::NoSuchLine => Layer::State,
             Reason::TooShort => Layer::State,
         }
-    }
-}
-
-impl PartialEq for Reason {
-    ghost eq = { on reason_number nat_eq };
-
-    ghost laws = { Prim.search (comparing, rules) };
-
-    fn eq(&self, other: &Reason) -> bool
-        ensures value { result ≡ on reason_number nat_eq self.now other.now }
-        ensures decides { Decides result (self.now ≡ other.now) }
-    {
-        self.number() == other.number()
     }
 }
 
