@@ -22,7 +22,7 @@ use Rattle.reading.specs.Rule.{Expected, expression, operator, the_symbol, onwar
 use Rattle.reading.specs.Reads.{Passed, ExpressionRead, ApplicationRead, Fails, applied}
 use Rattle.reading.proofs.Aheads.{Bad}
 use Rattle.reading.proofs.Sequences.{passed_then, fails_then}
-use Rattle.reading.proofs.Terminals.{symbols_differ}
+use Rattle.reading.specs.Fixed.{symbols_differ}
 
 module _ (text : List ℕ) (names : List (List ℕ)) (room : ℕ) (ps : List Piece) (f : Ending) where
   -- an operator applied to two parts

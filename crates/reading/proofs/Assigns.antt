@@ -12,17 +12,17 @@ use Rattle.letters.specs.Texts.{Piece, Ending}
 use Rattle.lists.specs.Overlay.{Laid}
 use Rattle.syntax.specs.declared.form.Node.{Node}
 use Rattle.syntax.specs.declared.form.Row.{Row}
+use Rattle.syntax.specs.declared.form.Row.TheVariants as row
 use Rattle.syntax.specs.Trees.{Expression, LegalExpression, LegalStatement, nesting_of, single}
 use Rattle.syntax.specs.Parts.{expression_nodes}
 use Rattle.syntax.specs.Emits.{Emits}
 use Rattle.syntax.proofs.Emitting.{emits_assign, emits_release}
-use Rattle.reading.specs.declared.simple.Assigned.{Assigned}
 use Rattle.reading.specs.Grammar.{Terminal, name, keyword, symbol, terminal, terminals, statement_tokens}
 use Rattle.reading.specs.Rule.{Expected, expression, assigned, the_symbol, step, judge, resolve}
 use Rattle.reading.specs.Reads.{Ahead, ExpressionRead, Fails}
 use Rattle.reading.specs.Assigns.{assigned_tokens, assigning, assigning_row, AssignedRead, ReleasedRead}
 use Rattle.reading.proofs.Aheads.{found, found_end}
-use Rattle.reading.proofs.Terminals.{keywords_differ}
+use Rattle.reading.specs.Fixed.{keywords_differ}
 
 module _ (text : List ℕ) (at : ℕ) (names : List (List ℕ)) (ps : List Piece) (f : Ending) (a : Ahead text at ps f) where
   -- without `declassify` an expression is expected
@@ -42,28 +42,32 @@ module _ (text : List ℕ) (at : ℕ) (names : List (List ℕ)) (ps : List Piece
   plain (case.Keyword k) s e h short other K = plain_token (lex.keyword k) s e h refl short (λ K. cond-false _ _ _ (keywords_differ k Declassify (λ q. other (ap lex.keyword q)))) K
   plain (case.Symbol x) s e h short other K = plain_token (lex.symbol x) s e h refl short (λ K. refl) K
 
-  pub plain_read : {nodes nodes' : List Node} {used used' to : ℕ} → ((K : List Expected) → judge (length text) ps f names (assigned ∷ K) ≡ judge (length text) ps f names (expression 20 ∷ K)) → ExpressionRead text names 20 (expression 20 ∷ []) ps f nodes used nodes' to used' → AssignedRead text names ps f nodes used nodes' (record { released = false; at = to; nodes = used' })
-  plain_read same e = record {
+  pub plain_read : {nodes nodes' : List Node} {used used' to : ℕ} (v : ℕ) → ((K : List Expected) → judge (length text) ps f names (assigned ∷ K) ≡ judge (length text) ps f names (expression 20 ∷ K)) → ExpressionRead text names 20 (expression 20 ∷ []) ps f nodes used nodes' to used' → AssignedRead text names v ps f nodes used nodes' (row.Assign v used) to used'
+  plain_read v same e = record {
+    released = false;
     tree = e.tree;
     passed = record { rest = e.passed.rest; ahead = e.passed.ahead; reads = e.passed.reads; passes = λ K. same K ∙ e.passed.passes K };
     legal = record { ranged = e.ranged; shallow = e.shallow };
     laid = e.laid;
+    row_is = refl;
   }
 
   pub release_fails : (rest : List Piece) (s e : ℕ) (r : Refusal) → ps ≡ record { token = lex.keyword Declassify; start = s; stop = e } ∷ rest → Fails text names (the_symbol Open ∷ expression 20 ∷ the_symbol Close ∷ []) rest f r → Fails text names (assigned ∷ []) ps f r
   release_fails rest s e r is h K = ap (λ x. judge (length text) x f names (assigned ∷ K)) is ∙ h K
 
-  pub release_read : (rest : List Piece) (s e : ℕ) {nodes nodes' : List Node} {used : ℕ} (to : Assigned) → ps ≡ record { token = lex.keyword Declassify; start = s; stop = e } ∷ rest → ReleasedRead text names rest f nodes used nodes' to → AssignedRead text names ps f nodes used nodes' to
-  release_read rest s e to is r = record {
+  pub release_read : (rest : List Piece) (s e : ℕ) {nodes nodes' : List Node} {used used' to : ℕ} (v : ℕ) → ps ≡ record { token = lex.keyword Declassify; start = s; stop = e } ∷ rest → ReleasedRead text names rest f nodes used nodes' to used' → AssignedRead text names v ps f nodes used nodes' (row.Release v used) to used'
+  release_read rest s e v is r = record {
+    released = true;
     tree = r.tree;
     passed = record {
       rest = r.passed.rest;
       ahead = r.passed.ahead;
-      reads = ap terminals is ∙ ap (λ t. keyword Declassify ∷ t) r.passed.reads ∙ ap (λ b. assigned_tokens b names r.tree (terminals r.passed.rest)) (sym r.is);
+      reads = ap terminals is ∙ ap (λ t. keyword Declassify ∷ t) r.passed.reads;
       passes = λ K. ap (λ x. judge (length text) x f names (assigned ∷ K)) is ∙ r.passed.passes K;
     };
     legal = r.legal;
     laid = r.laid;
+    row_is = refl;
   }
 
 -- an assignment or a release, from behind its name

@@ -19,10 +19,9 @@ use Rattle.syntax.specs.declared.form.Row.TheVariants.{If, Else, EndIf, While, E
 use Rattle.syntax.specs.Names.{among}
 use Rattle.syntax.specs.Trees as tree
 use Rattle.syntax.proofs.Emitting.{emits_branch, emits_while}
-use Rattle.reading.specs.declared.progress.Progress.{Progress}
 use Rattle.reading.specs.Grammar.{keyword, symbol, terminal, expression_tokens, statements_tokens}
 use Rattle.reading.specs.Rule.{Expected, statements, expression, the_keyword, the_symbol, onward, step, judge, resolve}
-use Rattle.reading.specs.Reads.{Ahead, Passed, StatementRead, ListRead, Fails}
+use Rattle.reading.specs.Reads.{Progress, Ahead, Passed, StatementRead, ListRead, Fails}
 use Rattle.reading.specs.Blocks.{ConditionRead, behind_if, behind_while}
 use Rattle.reading.proofs.Aheads.{Bad, found, found_end}
 use Rattle.reading.proofs.Sequences.{passed_then, fails_then}

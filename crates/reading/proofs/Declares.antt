@@ -1,9 +1,8 @@
 -- Declarations from their parts, and one behind the other.
-use Rattle.std.proofs.Common.{◌≡◌, ℕ, zero, suc, ◌+◌, ◌-◌, ◌<◌, ◌≤◌, Bool, true, false, not, ◌&&◌, ◌||◌, eqb, ltb, leb, List, [], ◌∷◌, ◌++◌, length, get_or, take, drop, set, replicate, is_some, sym, refl, ap, ◌∙◌, subst, ap₂, ⊎_elim, arith, length-append, Bor, lt-ltb, eq-eqb, le-leb, leb-false}
+use Rattle.std.proofs.Common.{◌≡◌, ℕ, zero, suc, ◌+◌, ◌-◌, ◌<◌, ◌≤◌, Bool, true, false, not, ◌&&◌, ◌||◌, eqb, ltb, leb, List, [], ◌∷◌, ◌++◌, length, get_or, take, drop, replicate, is_some, sym, refl, ap, ◌∙◌, subst, ap₂, ⊎_elim, arith, length-append, Bor, lt-ltb, eq-eqb, le-leb, leb-false}
 use lib.Seq.{take-append_seam}
 use Rattle.std.specs.Str.{bytes_eq}
-use Rattle.std.proofs.lemmas.Slice.Eq.{bytes_eq-Decides}
-use Rattle.std.proofs.lemmas.List.{take_more_set, map-append, length-replicate}
+use Rattle.std.proofs.lemmas.List.{map-append, length-replicate}
 use Rattle.std.proofs.lemmas.Bool.{cond-true, cond-false, cases_Bool, and_parts, true≢false}
 use Rattle.refusals.specs.declared.Reason.TheVariants.{Unexpected, BadDeclaration}
 use Rattle.refusals.specs.declared.Refusal.{Refusal}
@@ -29,7 +28,8 @@ use Rattle.reading.specs.Rule.{Expected, declarations, new_name, step, judge, re
 use Rattle.reading.specs.Reads.{Ahead, Passed}
 use Rattle.reading.specs.Declares.{NewNameRead, DeclarationRead, DeclarationsRead, DeclarationsFail, DeclarationFails, levelled, behind_var}
 use Rattle.reading.proofs.Aheads.{Bad, found, found_end}
-use Rattle.reading.proofs.Terminals.{keywords_differ}
+use Rattle.reading.proofs.Tables.{same_sym}
+use Rattle.reading.specs.Fixed.{keywords_differ}
 
 or_parts : (a b : Bool) → (a || b) ≡ false → (a ≡ false) × (b ≡ false)
 or_parts true b h = absurd (true≢false h)
@@ -130,9 +130,6 @@ legal_push (e ∷ ds) d h k =
     let p = and_parts (legal_declaration e) (all_legal ds) h in
     ap (λ b. b && all_legal (ds ++ (d ∷ []))) p.0 ∙ legal_push ds d p.1 k
 
-same_sym : (v w : List ℕ) → bytes_eq v w ≡ false → bytes_eq w v ≡ false
-same_sym v w h = ⊎_elim (λ t. absurd (true≢false (sym ((bytes_eq-Decides v w).1 (sym ((bytes_eq-Decides w v).0 t))) ∙ h))) (λ f. f) (cases_Bool (bytes_eq w v))
-
 among_push : (x : List ℕ) (ws : List (List ℕ)) (w : List ℕ) → among x ws ≡ false → bytes_eq x w ≡ false → among x (ws ++ (w ∷ [])) ≡ false
 among_push x [] w h k = ap (λ b. b || false) k
 among_push x (v ∷ ws) w h k =
@@ -204,5 +201,5 @@ module _ (text : List ℕ) (at : ℕ) (names : List (List ℕ)) (ps : List Piece
   declarations_over (case.Symbol x) s e h short other K = over_token (lex.symbol x) s e h refl short (λ K. refl) K
 
 -- the table with one name more
-pub heard_push : (table : List (Bor (List ℕ))) (count : ℕ) (w : Bor (List ℕ)) → count < length table → heard (take (count + 1) (set table count w)) ≡ heard (take count table) ++ (w.now ∷ [])
-heard_push table count w h = ap heard (take_more_set table count w h) ∙ map-append (λ (r : Bor (List ℕ)). r.now) (take count table) (w ∷ [])
+pub heard_push : (table : List (Bor (List ℕ))) (w : Bor (List ℕ)) → heard (table ++ (w ∷ [])) ≡ heard table ++ (w.now ∷ [])
+heard_push table w = map-append (λ (r : Bor (List ℕ)). r.now) table (w ∷ [])

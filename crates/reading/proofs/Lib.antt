@@ -3,6 +3,7 @@ pub mod Aheads
 pub mod Completes
 pub mod Declares
 pub mod Branches
+pub mod Carried
 pub mod Fronts
 pub mod Lists
 pub mod Assigns

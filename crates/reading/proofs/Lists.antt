@@ -1,5 +1,5 @@
 -- Statements of a list, one behind the other.
-use Rattle.std.proofs.Common.{◌≡◌, ℕ, ◌<◌, ◌≤◌, List, [], ◌∷◌, ◌++◌, length, IfOk, Ok, Err, Option, Result, sym, refl, ap, ◌∙◌, subst, arith, MatchResult}
+use Rattle.std.proofs.Common.{◌≡◌, ℕ, ◌≤◌, List, [], ◌∷◌, ◌++◌, length, sym, refl, ap, ◌∙◌, subst, arith}
 use Rattle.refusals.specs.declared.Refusal.{Refusal}
 use Rattle.letters.specs.declared.symbols.Symbol.TheVariants.{Semicolon}
 use Rattle.letters.specs.Tokens.{Lexeme}
@@ -9,10 +9,9 @@ use Rattle.syntax.specs.declared.form.Row.{Row}
 use Rattle.syntax.specs.Trees.{Statements, none, then, single, join, LegalStatements, nesting_in}
 use Rattle.syntax.specs.Emits.{Emits}
 use Rattle.syntax.proofs.Emitting.{emits_none, emits_join}
-use Rattle.reading.specs.declared.progress.Progress.{Progress}
 use Rattle.reading.specs.Grammar.{Terminal, symbol, terminal, terminals, statement_tokens, statements_tokens}
 use Rattle.reading.specs.Rule.{Expected, statements, onward, step, judge, resolve}
-use Rattle.reading.specs.Reads.{Ahead, StatementRead, ListRead, ListGoing, OneRead, OneOnward, Onward, Fails, wrapped}
+use Rattle.reading.specs.Reads.{Progress, Ahead, StatementRead, ListRead, ListGoing, Fails}
 
 tokens-join : (names : List (List ℕ)) (A B : Statements) (rest : List Terminal) → statements_tokens names (join A B) rest ≡ statements_tokens names A (statements_tokens names B rest)
 tokens-join names none B rest = refl
@@ -86,11 +85,11 @@ module _ (text : List ℕ) (names : List (List ℕ)) (room : ℕ) (f : Ending) w
     pub one_fails : (q : Refusal) → Fails text names X rest f q → Fails text names (statements room ∷ []) ps f q
     one_fails q h K = begun K ∙ h (statements room ∷ K)
 
-    -- and what the code answers
-    pub one : (rows rows' : List Row) (nodes nodes' : List Node) (from behind : Progress) (r : Result Progress Refusal) (r' : Result (Option Progress) Refusal) → r' ≡ wrapped r → behind.rows ≡ from.rows → behind.nodes ≡ from.nodes → MatchResult r (λ to. StatementRead text names room X (terminal l) rest f rows nodes behind rows' nodes' to) (λ q. Fails text names X rest f q) → OneRead text names room ps f rows nodes from rows' nodes' r'
-    one rows rows' nodes nodes' from behind (Ok to) r' w er en h = subst (OneRead text names room ps f rows nodes from rows' nodes') (sym w) (one_read er en h)
-    one rows rows' nodes nodes' from behind (Err q) r' w er en h = subst (OneRead text names room ps f rows nodes from rows' nodes') (sym w) (one_fails q h)
-
-pub one_onward : (text : List ℕ) (at e : ℕ) (r : Result Progress Refusal) (r' : Result (Option Progress) Refusal) → r' ≡ wrapped r → at < e → IfOk r (λ to. Onward text e to) → OneOnward text at r'
-one_onward text at e (Ok to) r' w lt h = subst (OneOnward text at) (sym w) (omega (arith, h.0), h.1, h.2, h.3)
-one_onward text at e (Err q) r' w lt h = subst (OneOnward text at) (sym w) tt
+-- a list from where it is said to begin
+pub list_as : {text : List ℕ} {names : List (List ℕ)} {room : ℕ} {ps : List Piece} {f : Ending} {rows rows' r1 : List Row} {nodes nodes' n1 : List Node} {at at' i i' k k' : ℕ} {to : Progress} → rows' ≡ rows → nodes' ≡ nodes → at' ≡ at → i' ≡ i → k' ≡ k → ListRead text names room ps f rows' nodes' (record { at = at'; rows = i'; nodes = k' }) r1 n1 to → ListRead text names room ps f rows nodes (record { at = at; rows = i; nodes = k }) r1 n1 to
+list_as {text} {names} {room} {ps} {f} {rows} {rows'} {r1} {nodes} {nodes'} {n1} {at} {at'} {i} {i'} {k} {k'} {to} er en ea ei ek l =
+    subst (λ x. ListRead text names room ps f rows nodes (record { at = at; rows = i; nodes = x }) r1 n1 to) ek
+    (subst (λ x. ListRead text names room ps f rows nodes (record { at = at; rows = x; nodes = k' }) r1 n1 to) ei
+    (subst (λ x. ListRead text names room ps f rows nodes (record { at = x; rows = i'; nodes = k' }) r1 n1 to) ea
+    (subst (λ x. ListRead text names room ps f rows x (record { at = at'; rows = i'; nodes = k' }) r1 n1 to) en
+    (subst (λ x. ListRead text names room ps f x nodes' (record { at = at'; rows = i'; nodes = k' }) r1 n1 to) er l))))

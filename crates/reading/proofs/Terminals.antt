@@ -1,6 +1,6 @@
 -- Tokens that are, or are not, what is expected.
-use Rattle.std.proofs.Common.{◌≡◌, ℕ, ◌<◌, ◌≤◌, Bool, true, false, cond, ◌&&◌, eqb, leb, List, [], ◌∷◌, length, drop, is_some, Some, None, sym, refl, ap, ◌∙◌, subst, ap₂, ⊎_elim, arith, Bor, eq-eqb, leb-true}
-use Rattle.std.proofs.lemmas.Bool.{cond-true, cond-false, cases_Bool, eqb-true, true≢false, and_parts}
+use Rattle.std.proofs.Common.{◌≡◌, ℕ, ◌<◌, ◌≤◌, Bool, true, false, cond, ◌&&◌, eqb, leb, List, [], ◌∷◌, length, drop, is_some, Some, None, sym, refl, ap, ◌∙◌, subst, ap₂, arith, Bor, leb-true}
+use Rattle.std.proofs.lemmas.Bool.{cond-true, cond-false, eqb-true, true≢false, and_parts}
 use Rattle.values.specs.declared.Operator.{Operator}
 use Rattle.values.specs.declared.Operator.TheVariants as op
 use Rattle.refusals.specs.declared.Reason.{Reason}
@@ -17,87 +17,14 @@ use Rattle.letters.specs.Tokens as lex
 use Rattle.letters.specs.Texts.{Piece, Ending, MadeOf}
 use Rattle.letters.specs.Numerals.{numeral_of, well_formed_digits, value_from}
 use Rattle.reading.specs.Grammar.{Terminal, name, numeral, keyword, symbol, nothing, terminal, operator_terminal}
-use Rattle.reading.specs.Rule.{Expected, the_keyword, the_symbol, a_numeral, operator, onward, step, judge, refused, keyword_number, symbol_number, symbol_operator, terminal_operator}
+use Rattle.reading.specs.Rule.{Expected, a_numeral, operator, onward, step, judge, refused, keyword_number, symbol_operator, terminal_operator}
 use Rattle.reading.specs.Reads.{Ahead, Fails}
+use Rattle.reading.specs.Fixed.{Fixes, keyword_at, keyword_again}
 use Rattle.reading.proofs.Aheads.{Bad}
 
--- a symbol and a keyword by their numbers
-symbol_at : ℕ → Symbol
-symbol_at n =
-    cond (eqb n 0) mark.Assign (cond (eqb n 1) mark.Colon (cond (eqb n 2) mark.Semicolon (cond (eqb n 3) mark.Open (cond (eqb n 4) mark.Close (cond (eqb n 5) mark.Plus
-    (cond (eqb n 6) mark.Minus (cond (eqb n 7) mark.Times (cond (eqb n 8) mark.Over (cond (eqb n 9) mark.Equals (cond (eqb n 10) mark.Less mark.Bar))))))))))
-
-symbol_again : (s : Symbol) → symbol_at (symbol_number s) ≡ s
-unfolding symbol_at
-symbol_again mark.Assign = refl
-symbol_again mark.Colon = refl
-symbol_again mark.Semicolon = refl
-symbol_again mark.Open = refl
-symbol_again mark.Close = refl
-symbol_again mark.Plus = refl
-symbol_again mark.Minus = refl
-symbol_again mark.Times = refl
-symbol_again mark.Over = refl
-symbol_again mark.Equals = refl
-symbol_again mark.Less = refl
-symbol_again mark.Bar = refl
-
-pub symbols_differ : (s t : Symbol) → (s ≡ t → ⊥) → eqb (symbol_number s) (symbol_number t) ≡ false
-symbols_differ s t h =
-    ⊎_elim (λ e. absurd (h (sym (symbol_again s) ∙ ap symbol_at (eqb-true (symbol_number s) (symbol_number t) e) ∙ symbol_again t))) (λ f. f)
-    (cases_Bool (eqb (symbol_number s) (symbol_number t)))
-
-keyword_at : ℕ → Keyword
-keyword_at n =
-    cond (eqb n 0) word.Var (cond (eqb n 1) word.Skip (cond (eqb n 2) word.If (cond (eqb n 3) word.Then (cond (eqb n 4) word.Else (cond (eqb n 5) word.End
-    (cond (eqb n 6) word.While (cond (eqb n 7) word.Do (cond (eqb n 8) word.Write (cond (eqb n 9) word.Stop (cond (eqb n 10) word.Declassify word.Max))))))))))
-
-keyword_again : (k : Keyword) → keyword_at (keyword_number k) ≡ k
-unfolding keyword_at
-keyword_again word.Var = refl
-keyword_again word.Skip = refl
-keyword_again word.If = refl
-keyword_again word.Then = refl
-keyword_again word.Else = refl
-keyword_again word.End = refl
-keyword_again word.While = refl
-keyword_again word.Do = refl
-keyword_again word.Write = refl
-keyword_again word.Stop = refl
-keyword_again word.Declassify = refl
-keyword_again word.Max = refl
-
-pub keywords_differ : (k l : Keyword) → (k ≡ l → ⊥) → eqb (keyword_number k) (keyword_number l) ≡ false
-keywords_differ k l h =
-    ⊎_elim (λ e. absurd (h (sym (keyword_again k) ∙ ap keyword_at (eqb-true (keyword_number k) (keyword_number l) e) ∙ keyword_again l))) (λ f. f)
-    (cases_Bool (eqb (keyword_number k) (keyword_number l)))
-
-same_number : (n : ℕ) → eqb n n ≡ true
-same_number n = eq-eqb n n refl
-
--- what is expected comes
-pub takes_symbol : (names : List (List ℕ)) (s : Symbol) (K : List Expected) → step names (the_symbol s ∷ K) (symbol s) ≡ onward names K
-takes_symbol names s K = cond-true _ _ _ (same_number (symbol_number s))
-
-pub takes_keyword : (names : List (List ℕ)) (k : Keyword) (K : List Expected) → step names (the_keyword k ∷ K) (keyword k) ≡ onward names K
-takes_keyword names k K = cond-true _ _ _ (same_number (keyword_number k))
-
 -- something else comes
-pub bad_symbol : (names : List (List ℕ)) (wanted : Symbol) (t : Token) → (t ≡ case.Symbol wanted → ⊥) → Bad names (the_symbol wanted) (view t) Unexpected
-bad_symbol names wanted case.End h = record { turns = λ K. refl; ends = λ _. (refl, λ long K. refl) }
-bad_symbol names wanted (case.Name w) h = record { turns = λ K. refl; ends = λ e. absurd (true≢false (sym e)) }
-bad_symbol names wanted (case.Numeral w n) h = record { turns = λ K. refl; ends = λ e. absurd (true≢false (sym e)) }
-bad_symbol names wanted (case.Keyword k) h = record { turns = λ K. refl; ends = λ e. absurd (true≢false (sym e)) }
-bad_symbol names wanted (case.Symbol s) h =
-    record { turns = λ K. cond-false _ _ _ (symbols_differ s wanted (λ e. h (ap case.Symbol e))); ends = λ e. absurd (true≢false (sym e)) }
-
-pub bad_keyword : (names : List (List ℕ)) (wanted : Keyword) (t : Token) → (t ≡ case.Keyword wanted → ⊥) → Bad names (the_keyword wanted) (view t) Unexpected
-bad_keyword names wanted case.End h = record { turns = λ K. refl; ends = λ _. (refl, λ long K. refl) }
-bad_keyword names wanted (case.Name w) h = record { turns = λ K. refl; ends = λ e. absurd (true≢false (sym e)) }
-bad_keyword names wanted (case.Numeral w n) h = record { turns = λ K. refl; ends = λ e. absurd (true≢false (sym e)) }
-bad_keyword names wanted (case.Keyword k) h =
-    record { turns = λ K. cond-false _ _ _ (keywords_differ k wanted (λ e. h (ap case.Keyword e))); ends = λ e. absurd (true≢false (sym e)) }
-bad_keyword names wanted (case.Symbol s) h = record { turns = λ K. refl; ends = λ e. absurd (true≢false (sym e)) }
+pub bad_other : {l : Lexeme} {x : Expected} (names : List (List ℕ)) (t : Token) → Fixes l x → (view t ≡ l → ⊥) → Bad names x (view t) Unexpected
+bad_other names t F h = record { turns = F.others names t h; ends = λ _. (refl, F.ends) }
 
 pub bad_numeral : (names : List (List ℕ)) (t : Token) → ((w : Bor (List ℕ)) (n : ℕ) → t ≡ case.Numeral w n → ⊥) → Bad names a_numeral (view t) Unexpected
 bad_numeral names case.End h = record { turns = λ K. refl; ends = λ _. (refl, λ long K. refl) }

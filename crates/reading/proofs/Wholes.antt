@@ -5,7 +5,7 @@ use Rattle.refusals.specs.declared.Reason.TheVariants.{Unexpected, NoRoom}
 use Rattle.refusals.specs.declared.Refusal.{Refusal}
 use Rattle.letters.specs.declared.tokens.Token.{Token}
 use Rattle.letters.specs.declared.tokens.Token.TheVariants as case
-use Rattle.letters.specs.Tokens.{Lexeme, view, token, next_at, is_end}
+use Rattle.letters.specs.Tokens.{view, token, next_at}
 use Rattle.letters.specs.Tokens as lex
 use Rattle.letters.specs.Texts.{Piece, Ending, finished, MadeOf}
 use Rattle.lists.proofs.Laws.{blank-behind}
@@ -17,11 +17,10 @@ use Rattle.syntax.specs.declared.form.Row.TheVariants.{Skip}
 use Rattle.syntax.specs.Names.{well_declared, blank_declaration}
 use Rattle.syntax.specs.Trees.{LegalStatements}
 use Rattle.syntax.proofs.Emitting.{rows_laid_form, nodes_laid_form}
-use Rattle.reading.specs.declared.progress.Progress.{Progress}
 use Rattle.reading.specs.declared.scripts.Used.{Used}
 use Rattle.reading.specs.Grammar.{terminals, declarations_tokens, statements_tokens}
 use Rattle.reading.specs.Rule.{statements, whole, judge, accepted, refused}
-use Rattle.reading.specs.Reads.{Ahead, ListRead}
+use Rattle.reading.specs.Reads.{Progress, Ahead, ListRead}
 use Rattle.reading.specs.Declares.{DeclarationsRead, DeclarationsOver}
 use Rattle.reading.specs.Scripts.{ScriptRead, Accepted, Cramped, RefusedTexts}
 use Rattle.reading.proofs.Accepts.{accepts, spellings-length}
@@ -34,10 +33,10 @@ module _ (text : List ℕ) (names : List (List ℕ)) (ps : List Piece) (f : Endi
   pub list_judged : (e : Refusal) → judge (length text) D.rest f names (statements 20 ∷ []) ≡ refused e.reason e.place → judge (length text) ps f [] whole ≡ refused e.reason e.place
   list_judged e h = D.passes (statements 20 ∷ []) ∙ over D.rest D.ahead (statements 20 ∷ []) ∙ h
 
-  pub script_read : {rows rows' : List Row} {nodes nodes' : List Node} {to : Progress} (L : ListRead text names 20 D.rest f rows nodes (record { at = at; rows = 0; nodes = 0 }) rows' nodes' to) → MadeOf 0 text ps f → length text ≤ 1048576 → count ≤ 256 → (L.passed.rest ≡ []) × (f ≡ finished) → ScriptRead text ds rows nodes ds' rows' nodes' (record { declarations = count; rows = to.rows; nodes = to.nodes })
+  pub script_read : {rows rows' : List Row} {nodes nodes' : List Node} {to : Progress} (L : ListRead text names 20 D.rest f rows nodes (record { at = at; rows = 0; nodes = 0 }) rows' nodes' to) → MadeOf 0 text ps f → length text ≤ 1048576 → length names ≤ 256 → (L.passed.rest ≡ []) × (f ≡ finished) → ScriptRead text ds rows nodes ds' rows' nodes' (record { declarations = count; rows = to.rows; nodes = to.nodes })
   script_read L m short few end =
-      let n : length D.tree ≤ 256 = omega (arith, D.laid.behind) in
       let names-are : length names ≡ length D.tree = ap length D.named ∙ spellings-length D.tree in
+      let n : length D.tree ≤ 256 = omega (arith, names-are) in
       let well : well_declared D.tree ≡ true = rw (le-leb (length D.tree) 256 n, D.legal, D.apart) refl in
       record {
         script = record { declarations = D.tree; statements = L.tree };

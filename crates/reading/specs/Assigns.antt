@@ -9,7 +9,6 @@ use Rattle.syntax.specs.declared.form.Row.{Row}
 use Rattle.syntax.specs.declared.form.Row.TheVariants.{Assign, Release}
 use Rattle.syntax.specs.Trees.{Expression, LegalExpression, Statement, assign, release}
 use Rattle.syntax.specs.Parts.{expression_nodes}
-use Rattle.reading.specs.declared.simple.Assigned.{Assigned}
 use Rattle.reading.specs.Grammar.{Terminal, keyword, symbol, expression_tokens}
 use Rattle.reading.specs.Rule.{expression, assigned, the_symbol}
 use Rattle.reading.specs.Reads.{Passed}
@@ -29,15 +28,16 @@ abbrev pub assigning_row : Bool → ℕ → ℕ → Row
 assigning_row false v at = Assign v at
 assigning_row true v at = Release v at
 
-pub record AssignedRead (text : List ℕ) (names : List (List ℕ)) (ps : List Piece) (f : Ending) (nodes : List Node) (used : ℕ) (nodes' : List Node) (to : Assigned) : Type 0 where
+pub record AssignedRead (text : List ℕ) (names : List (List ℕ)) (variable : ℕ) (ps : List Piece) (f : Ending) (nodes : List Node) (used : ℕ) (nodes' : List Node) (row : Row) (to used' : ℕ) : Type 0 where
+  pub released : Bool
   pub tree : Expression
-  pub passed : Passed text names (assigned ∷ []) (assigned_tokens to.released names tree) ps f to.at
+  pub passed : Passed text names (assigned ∷ []) (assigned_tokens released names tree) ps f to
   pub legal : LegalExpression (length names) tree
-  pub laid : Laid nodes used (expression_nodes tree) nodes' to.nodes
+  pub laid : Laid nodes used (expression_nodes tree) nodes' used'
+  pub row_is : row ≡ assigning_row released variable used
 
-pub record ReleasedRead (text : List ℕ) (names : List (List ℕ)) (ps : List Piece) (f : Ending) (nodes : List Node) (used : ℕ) (nodes' : List Node) (to : Assigned) : Type 0 where
+pub record ReleasedRead (text : List ℕ) (names : List (List ℕ)) (ps : List Piece) (f : Ending) (nodes : List Node) (used : ℕ) (nodes' : List Node) (to used' : ℕ) : Type 0 where
   pub tree : Expression
-  pub passed : Passed text names (the_symbol Open ∷ expression 20 ∷ the_symbol Close ∷ []) (λ rest. symbol Open ∷ expression_tokens names tree (symbol Close ∷ rest)) ps f to.at
+  pub passed : Passed text names (the_symbol Open ∷ expression 20 ∷ the_symbol Close ∷ []) (λ rest. symbol Open ∷ expression_tokens names tree (symbol Close ∷ rest)) ps f to
   pub legal : LegalExpression (length names) tree
-  pub laid : Laid nodes used (expression_nodes tree) nodes' to.nodes
-  pub is : to.released ≡ true
+  pub laid : Laid nodes used (expression_nodes tree) nodes' used'

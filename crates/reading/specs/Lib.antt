@@ -1,6 +1,8 @@
 pub mod Grammar
 pub mod Rule
 pub mod Reads
+pub mod Readers
+pub mod Fixed
 pub mod Heard
 pub mod Assigns
 pub mod Blocks

@@ -3,7 +3,7 @@
 -- `Ahead` says which tokens stand from a place on. A function that reads what is expected either passes it: the tokens are those of the part
 -- read, and the left-to-right rule goes on behind it with whatever is expected then; or it fails: the rule refuses the text, with that reason
 -- and place, whatever would have been expected behind.
-use Rattle.std.specs.Prelude.{◌≡◌, ℕ, ◌<◌, ◌≤◌, List, [], ◌∷◌, ◌++◌, length, drop, Some, None, Ok, Err, Option, Result}
+use Rattle.std.specs.Prelude.{◌≡◌, ℕ, ◌≤◌, List, [], ◌∷◌, ◌++◌, length, drop}
 use Rattle.refusals.specs.declared.Refusal.{Refusal}
 use Rattle.values.specs.declared.Operator.{Operator}
 use Rattle.letters.specs.declared.symbols.Symbol.TheVariants.{Close, Semicolon}
@@ -14,9 +14,14 @@ use Rattle.syntax.specs.declared.form.Row.{Row}
 use Rattle.syntax.specs.Emits.{Emits}
 use Rattle.syntax.specs.Trees.{Expression, apply, InRange, depth_of, Statement, LegalStatement, nesting_of, single, Statements, LegalStatements, nesting_in}
 use Rattle.syntax.specs.Parts.{expression_nodes}
-use Rattle.reading.specs.declared.progress.Progress.{Progress}
 use Rattle.reading.specs.Grammar.{Terminal, symbol, terminals, operator_terminal, expression_tokens, statement_tokens, statements_tokens}
 use Rattle.reading.specs.Rule.{Expected, statements, expression, operator, the_symbol, judge, refused}
+
+-- the place in the text, and how many rows and nodes are used, whether they found room or not
+pub record Progress : Type 0 where
+  pub at : ℕ
+  pub rows : ℕ
+  pub nodes : ℕ
 
 -- the tokens from a place on, and how the text ends
 pub record Ahead (text : List ℕ) (at : ℕ) (ps : List Piece) (f : Ending) : Type 0 where
@@ -66,10 +71,6 @@ pub record StatementRead (text : List ℕ) (names : List (List ℕ)) (room : ℕ
   pub nested : nesting_of tree ≤ room
   pub emits : Emits (single tree) rows nodes from.rows from.nodes rows' nodes' to.rows to.nodes
 
--- reading goes on, and no more rows and nodes are used than bytes are read
-abbrev pub Onward : List ℕ → ℕ → Progress → Type 0
-Onward text at to = (at < to.at) × (to.at ≤ length text) × (to.rows ≤ to.at) × (to.nodes ≤ to.at)
-
 -- a list of statements is read
 pub record ListRead (text : List ℕ) (names : List (List ℕ)) (room : ℕ) (ps : List Piece) (f : Ending) (rows : List Row) (nodes : List Node) (from : Progress) (rows' : List Row) (nodes' : List Node) (to : Progress) : Type 0 where
   pub tree : Statements
@@ -88,19 +89,3 @@ pub record ListGoing (text : List ℕ) (names : List (List ℕ)) (room : ℕ) (p
   pub legal : LegalStatements (length names) tree
   pub nested : nesting_in tree ≤ room
   pub emits : Emits tree rows nodes from.rows from.nodes rows' nodes' to.rows to.nodes
-
--- one statement of a list: there is none, there is one, or the text is refused
-abbrev pub OneRead : (text : List ℕ) (names : List (List ℕ)) (room : ℕ) (ps : List Piece) (f : Ending) (rows : List Row) (nodes : List Node) (from : Progress) (rows' : List Row) (nodes' : List Node) → Result (Option Progress) Refusal → Type 0
-OneRead text names room ps f rows nodes from rows' nodes' (Ok None) = (rows' ≡ rows) × (nodes' ≡ nodes) × ((K : List Expected) → judge (length text) ps f names (statements room ∷ K) ≡ judge (length text) ps f names K)
-OneRead text names room ps f rows nodes from rows' nodes' (Ok (Some to)) = ListGoing text names room ps f rows nodes from rows' nodes' to
-OneRead text names room ps f rows nodes from rows' nodes' (Err e) = Fails text names (statements room ∷ []) ps f e
-
--- with a statement reading goes on
-abbrev pub OneOnward : List ℕ → ℕ → Result (Option Progress) Refusal → Type 0
-OneOnward text at (Ok None) = Unit {0}
-OneOnward text at (Ok (Some to)) = Onward text at to
-OneOnward text at (Err e) = Unit {0}
-
-abbrev pub wrapped : Result Progress Refusal → Result (Option Progress) Refusal
-wrapped (Ok to) = Ok (Some to)
-wrapped (Err e) = Err e

@@ -2,10 +2,11 @@
 #![tactic(auto)]
 
 mod blocks;
+mod cursor;
 mod declarations;
 mod expressions;
 mod names;
-mod progress;
+mod reader;
 mod scripts;
 mod simple;
 mod takes;

@@ -3,11 +3,11 @@ ghost use Rattle.std.specs.Prelude.{◌≡◌, ◌≤◌, length, MatchBool, Mat
 ghost use Rattle.reading.specs.Grammar.{OneScript};
 ghost use Rattle.reading.specs.Scripts.{ScriptRead, Judged, Blanks, Outcome, RefusedTexts, FrontsDecide, FrontsComplete, PlacesWithin};
 
-use super::blocks::list;
-use super::declarations::declare_all;
-use super::progress::Progress;
+use super::cursor::Cursor;
+use super::declarations::Names;
+use super::reader::Reader;
 use letters::{TEXT_BYTES, Token, next_token};
-use lists::blank;
+use lists::{Places, blank};
 use refusals::{Reason, Refusal};
 use syntax::{Declaration, Node, Row};
 
@@ -15,7 +15,7 @@ use syntax::{Declaration, Node, Row};
 const NESTING: u8 = 20;
 
 // How many places of each list a script uses.
-#[derive(Clone, Copy, Debug)]
+#[derive(Clone, Copy, PartialEq, Eq, Debug)]
 pub struct Used {
     pub declarations: usize,
     pub rows: usize,
@@ -32,32 +32,44 @@ fn parse(
     requires { length text.now ≤ 1048576 }
     ensures { MatchResult result (λ used. ScriptRead text.now declarations.old rows.old nodes.old declarations.new rows.new nodes.new used) (λ e. Judged text.now e) }
 {
-    let mut table: [&[u8]; 256] = [&[]; 256];
-    let (at, count) = match declare_all(text, &mut table, declarations) {
-        Ok(read) => read,
-        Err(refusal) => return Err(refusal),
+    let mut declarations = Places::new(declarations);
+    let mut rows = Places::new(rows);
+    let mut nodes = Places::new(nodes);
+    parse_into(text, &mut declarations, &mut rows, &mut nodes)?;
+    Ok(Used {
+        declarations: declarations.used,
+        rows: rows.used,
+        nodes: nodes.used,
+    })
+}
+
+// Such a script, into lists of which no place is used yet.
+fn parse_into<'l>(
+    text: &[u8],
+    declarations: &mut Places<Declaration>,
+    rows: &mut Places<'l, Row>,
+    nodes: &mut Places<'l, Node>,
+) -> Result<(), Refusal>
+    requires short { length text.now ≤ 1048576 }
+    requires none_used { (declarations.old.used ≡ 0) × (rows.old.used ≡ 0) × (nodes.old.used ≡ 0) }
+    ensures same { (declarations.new.cells.ghost_name ≡ declarations.old.cells.ghost_name) × (rows.new.cells.ghost_name ≡ rows.old.cells.ghost_name) × (nodes.new.cells.ghost_name ≡ nodes.old.cells.ghost_name) }
+    ensures read { MatchResult result (λ _. ScriptRead text.now declarations.old.cells.now rows.old.cells.now nodes.old.cells.now declarations.new.cells.now rows.new.cells.now nodes.new.cells.now (record { declarations = declarations.new.used; rows = rows.new.used; nodes = nodes.new.used })) (λ e. Judged text.now e) }
+{
+    let mut cursor = Cursor { text, at: 0 };
+    let mut names = Names::new();
+    cursor.declare_all(&mut names, declarations)?;
+    let mut reader = Reader {
+        cursor,
+        names: names.as_slice(),
+        rows,
+        nodes,
     };
-    let from = Progress {
-        at,
-        rows: 0,
-        nodes: 0,
+    reader.list(NESTING)?;
+    let lexed = next_token(reader.cursor.text, reader.cursor.at)?;
+    let Token::End = lexed.token else {
+        return Err(Refusal::new(Reason::Unexpected, lexed.start));
     };
-    let to = match list(text, from, &table[0..count], rows, nodes, NESTING) {
-        Ok(to) => to,
-        Err(refusal) => return Err(refusal),
-    };
-    let lexed = match next_token(text, to.at) {
-        Ok(lexed) => lexed,
-        Err(refusal) => return Err(refusal),
-    };
-    match lexed.token {
-        Token::End => Ok(Used {
-            declarations: count,
-            rows: to.rows,
-            nodes: to.nodes,
-        }),
-        _ => Err(Refusal::new(Reason::Unexpected, lexed.start)),
-    }
+    Ok(())
 }
 
 // Reads a script into three lists. Accepted, it answers the places used; behind them the lists hold blanks. Refused, the lists hold only

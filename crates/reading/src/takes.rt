@@ -1,72 +1,58 @@
 // One token that is expected.
 ghost use Rattle.std.specs.Prelude.{◌≡◌, ℕ, ◌<◌, ◌≤◌, List, [], ◌∷◌, length, IfOk, MatchBool, MatchResult, ◌≢◌};
 ghost use Rattle.letters.specs.Texts.{Piece, Ending};
-ghost use Rattle.reading.specs.Grammar.{Terminal, numeral, keyword, symbol, terminal, operator_terminal};
-ghost use Rattle.reading.specs.Rule.{the_keyword, the_symbol, a_numeral, operator as an_operator, symbol_operator, terminal_operator};
-ghost use Rattle.letters.specs.Tokens.{view, keyword as keyword_lexeme};
+ghost use Rattle.letters.specs.Tokens.{Lexeme, view, keyword, symbol};
+ghost use Rattle.reading.specs.Grammar.{numeral, terminal, operator_terminal};
+ghost use Rattle.reading.specs.Rule.{Expected, the_keyword, the_symbol, a_numeral, operator as an_operator, symbol_operator, terminal_operator};
 ghost use Rattle.reading.specs.Reads.{Ahead, Passed, Fails};
+ghost use Rattle.reading.specs.Fixed.{Fixes, fixed_symbol, fixed_keyword};
 
+use super::cursor::Cursor;
 use letters::{Keyword, Symbol, Token, next_token};
 use refusals::{Reason, Refusal};
 use values::Operator;
 
-// The symbol that is wanted: the place behind it.
-pub fn take_symbol(text: &[u8], at: usize, wanted: Symbol) -> Result<usize, Refusal>
-    requires { at ≤ length text.now }
-    ensures within { IfOk result (λ to. (at < to) × (to ≤ length text.now)) }
-    ensures read { (names : List (List ℕ)) (ps : List Piece) (f : Ending) → Ahead text.now at ps f → MatchResult result (λ to. Passed text.now names (the_symbol wanted ∷ []) (λ rest. symbol wanted ∷ rest) ps f to) (λ e. Fails text.now names (the_symbol wanted ∷ []) ps f e) }
-{
-    let lexed = match next_token(text, at) {
-        Ok(lexed) => lexed,
-        Err(refusal) => return Err(refusal),
-    };
-    match lexed.token {
-        Token::Symbol(symbol) => {
-            if symbol == wanted {
-                Ok(lexed.end)
-            } else {
-                Err(Refusal::new(Reason::Unexpected, lexed.start))
-            }
+// A token that is written in one way only.
+pub trait Fixed: Copy {
+    // the token
+    ghost lexeme: { Self → Lexeme };
+
+    // and what is expected where it must stand
+    ghost expected: { Self → Expected };
+
+    fn is(self, token: Token) -> bool
+        ensures { MatchBool result (view token.entry ≡ lexeme self) (view token.entry ≢ lexeme self) };
+
+    ghost fixes: { (x : Self) → Fixes (lexeme x) (expected x) };
+}
+
+impl Fixed for Symbol {
+    ghost lexeme = { symbol };
+
+    ghost expected = { the_symbol };
+
+    ghost fixes = { fixed_symbol };
+
+    fn is(self, token: Token) -> bool {
+        match token {
+            Token::Symbol(symbol) => symbol == self,
+            _ => false,
         }
-        _ => Err(Refusal::new(Reason::Unexpected, lexed.start)),
     }
 }
 
-// The keyword that is wanted: the place behind it.
-pub fn take_keyword(text: &[u8], at: usize, wanted: Keyword) -> Result<usize, Refusal>
-    requires { at ≤ length text.now }
-    ensures within { IfOk result (λ to. (at < to) × (to ≤ length text.now)) }
-    ensures read { (names : List (List ℕ)) (ps : List Piece) (f : Ending) → Ahead text.now at ps f → MatchResult result (λ to. Passed text.now names (the_keyword wanted ∷ []) (λ rest. keyword wanted ∷ rest) ps f to) (λ e. Fails text.now names (the_keyword wanted ∷ []) ps f e) }
-{
-    let lexed = match next_token(text, at) {
-        Ok(lexed) => lexed,
-        Err(refusal) => return Err(refusal),
-    };
-    match lexed.token {
-        Token::Keyword(keyword) => {
-            if keyword == wanted {
-                Ok(lexed.end)
-            } else {
-                Err(Refusal::new(Reason::Unexpected, lexed.start))
-            }
-        }
-        _ => Err(Refusal::new(Reason::Unexpected, lexed.start)),
-    }
-}
+impl Fixed for Keyword {
+    ghost lexeme = { keyword };
 
-// A numeral: its value, and the place behind it.
-pub fn take_numeral(text: &[u8], at: usize) -> Result<(u32, usize), Refusal>
-    requires { at ≤ length text.now }
-    ensures within { IfOk result (λ x. (at < x.1) × (x.1 ≤ length text.now)) }
-    ensures read { (names : List (List ℕ)) (ps : List Piece) (f : Ending) → Ahead text.now at ps f → MatchResult result (λ x. Passed text.now names (a_numeral ∷ []) (λ rest. numeral x.0 ∷ rest) ps f x.1 × (x.0 ≤ 2147483647)) (λ e. Fails text.now names (a_numeral ∷ []) ps f e) }
-{
-    let lexed = match next_token(text, at) {
-        Ok(lexed) => lexed,
-        Err(refusal) => return Err(refusal),
-    };
-    match lexed.token {
-        Token::Numeral { value, .. } => Ok((value, lexed.end)),
-        _ => Err(Refusal::new(Reason::Unexpected, lexed.start)),
+    ghost expected = { the_keyword };
+
+    ghost fixes = { fixed_keyword };
+
+    fn is(self, token: Token) -> bool {
+        match token {
+            Token::Keyword(keyword) => keyword == self,
+            _ => false,
+        }
     }
 }
 
@@ -97,28 +83,53 @@ fn operator_of(token: Token) -> Option<Operator>
     }
 }
 
-// An operator, and the place behind it.
-pub fn take_operator(text: &[u8], at: usize) -> Result<(Operator, usize), Refusal>
-    requires { at ≤ length text.now }
-    ensures within { IfOk result (λ x. (at < x.1) × (x.1 ≤ length text.now)) }
-    ensures read { (names : List (List ℕ)) (ps : List Piece) (f : Ending) → Ahead text.now at ps f → MatchResult result (λ x. Passed text.now names (an_operator ∷ []) (λ rest. operator_terminal x.0 ∷ rest) ps f x.1) (λ e. Fails text.now names (an_operator ∷ []) ps f e) }
-{
-    let lexed = match next_token(text, at) {
-        Ok(lexed) => lexed,
-        Err(refusal) => return Err(refusal),
-    };
-    match operator_of(lexed.token) {
-        Some(operator) => Ok((operator, lexed.end)),
-        None => Err(Refusal::new(Reason::Unexpected, lexed.start)),
+impl<'a> Cursor<'a> {
+    // Goes behind the token that is wanted.
+    pub fn take<T: Fixed>(&mut self, wanted: T) -> Result<(), Refusal>
+        ensures same { self.new.text ≡ self.old.text }
+        ensures forth { self.old.at ≤ self.new.at }
+        ensures onward { IfOk result (λ _. self.old.at < self.new.at) }
+        ensures read { (names : List (List ℕ)) (ps : List Piece) (f : Ending) → Ahead self.old.text.now self.old.at ps f → MatchResult result (λ _. Passed self.old.text.now names (T.expected wanted ∷ []) (λ rest. terminal (T.lexeme wanted) ∷ rest) ps f self.new.at) (λ e. Fails self.old.text.now names (T.expected wanted ∷ []) ps f e) }
+    {
+        let lexed = next_token(self.text, self.at)?;
+        if !wanted.is(lexed.token) {
+            return Err(Refusal::new(Reason::Unexpected, lexed.start));
+        }
+        self.at = lexed.end;
+        Ok(())
     }
-}
 
-// Whether a token is that keyword.
-pub fn is_keyword(token: Token, wanted: Keyword) -> bool
-    ensures { MatchBool result (view token.entry ≡ keyword_lexeme wanted) (view token.entry ≢ keyword_lexeme wanted) }
-{
-    match token {
-        Token::Keyword(keyword) => keyword == wanted,
-        _ => false,
+    // Goes behind a numeral, and answers its value.
+    pub fn take_numeral(&mut self) -> Result<u32, Refusal>
+        ensures same { self.new.text ≡ self.old.text }
+        ensures forth { self.old.at ≤ self.new.at }
+        ensures onward { IfOk result (λ _. self.old.at < self.new.at) }
+        ensures read { (names : List (List ℕ)) (ps : List Piece) (f : Ending) → Ahead self.old.text.now self.old.at ps f → MatchResult result (λ x. Passed self.old.text.now names (a_numeral ∷ []) (λ rest. numeral x ∷ rest) ps f self.new.at × (x ≤ 2147483647)) (λ e. Fails self.old.text.now names (a_numeral ∷ []) ps f e) }
+    {
+        let lexed = next_token(self.text, self.at)?;
+        match lexed.token {
+            Token::Numeral { value, .. } => {
+                self.at = lexed.end;
+                Ok(value)
+            }
+            _ => Err(Refusal::new(Reason::Unexpected, lexed.start)),
+        }
+    }
+
+    // Goes behind an operator, and answers which it is.
+    pub fn take_operator(&mut self) -> Result<Operator, Refusal>
+        ensures same { self.new.text ≡ self.old.text }
+        ensures forth { self.old.at ≤ self.new.at }
+        ensures onward { IfOk result (λ _. self.old.at < self.new.at) }
+        ensures read { (names : List (List ℕ)) (ps : List Piece) (f : Ending) → Ahead self.old.text.now self.old.at ps f → MatchResult result (λ x. Passed self.old.text.now names (an_operator ∷ []) (λ rest. operator_terminal x ∷ rest) ps f self.new.at) (λ e. Fails self.old.text.now names (an_operator ∷ []) ps f e) }
+    {
+        let lexed = next_token(self.text, self.at)?;
+        match operator_of(lexed.token) {
+            Some(operator) => {
+                self.at = lexed.end;
+                Ok(operator)
+            }
+            None => Err(Refusal::new(Reason::Unexpected, lexed.start)),
+        }
     }
 }

@@ -25,11 +25,7 @@ fn spell_lists<'a>(
     }
     let mut text = vec![in rt.alloc(); 0u8; bytes]?;
     match spell(&program, &mut text) {
-        Ok(length) => {
-            if length <= text.len() {
-                rt.stdout().write_all(&text[0..length])?;
-            }
-        }
+        Ok(length) => rt.stdout().write_all(&text[..length])?,
         Err(refusal) => println!(rt; "{refusal}")?,
     }
     Ok(())
@@ -48,16 +44,15 @@ fn run(rt: &HostRuntime) -> anyhow::Result<()> {
     let mut nodes = vec![in heap; Node::default(); text.len() / 2]?;
     match read(&text, &mut declarations, &mut rows, &mut nodes) {
         Ok(used) => {
-            let (d, r, n) = (used.declarations, used.rows, used.nodes);
-            if d <= declarations.len() && r <= rows.len() && n <= nodes.len() {
-                // a token is spelled as it stood, and one byte follows it
-                let bytes = if text.len() < TEXT_BYTES / 2 {
-                    text.len() * 2
-                } else {
-                    TEXT_BYTES
-                };
-                spell_lists(rt, bytes, &declarations[0..d], &rows[0..r], &nodes[0..n])?;
-            }
+            // a token is spelled as it stood, and one byte follows it
+            let bytes = text.len().saturating_mul(2).min(TEXT_BYTES);
+            spell_lists(
+                rt,
+                bytes,
+                &declarations[..used.declarations],
+                &rows[..used.rows],
+                &nodes[..used.nodes],
+            )?;
         }
         Err(refusal) => println!(rt; "{refusal}")?,
     }

@@ -4,6 +4,7 @@
 
 use letters::TEXT_BYTES;
 use reading::read;
+use refusals::Refusal;
 use std::io::Read;
 use std::time::{Duration, Instant};
 use syntax::{Declaration, Node, Program, Row};
@@ -13,44 +14,20 @@ const VARIABLES: usize = 256;
 
 const ROUNDS: u32 = 200;
 
-fn time_read(
+// The least time that a call takes in some rounds.
+fn least_time<F: FnMut() -> Result<(), Refusal>>(
     rt: &HostRuntime,
-    text: &[u8],
-    declarations: &mut [Declaration],
-    rows: &mut [Row],
-    nodes: &mut [Node],
-) -> anyhow::Result<Duration> {
+    mut call: F,
+) -> anyhow::Result<Duration>
+    requires { F.IsAlwaysCallable call }
+{
     let mut least = Duration::MAX;
     'rounds: for _ in 0..ROUNDS {
         let start = Instant::now(rt)?;
-        if let Err(refusal) = read(text, declarations, rows, nodes) {
+        if let Err(refusal) = call() {
             println!(rt; "{refusal}")?;
         }
-        let span = start.elapsed(rt)?;
-        if span < least {
-            least = span;
-        }
-    }
-    Ok(least)
-}
-
-fn time_hold<'a>(
-    rt: &HostRuntime,
-    declarations: &'a [Declaration],
-    rows: &'a [Row],
-    nodes: &'a [Node],
-) -> anyhow::Result<Duration> {
-    let mut least = Duration::MAX;
-    'rounds: for _ in 0..ROUNDS {
-        let mut program = Program::empty();
-        let start = Instant::now(rt)?;
-        if let Err(refusal) = program.hold(declarations, rows, nodes) {
-            println!(rt; "{refusal}")?;
-        }
-        let span = start.elapsed(rt)?;
-        if span < least {
-            least = span;
-        }
+        least = least.min(start.elapsed(rt)?);
     }
     Ok(least)
 }
@@ -67,7 +44,9 @@ fn run(rt: &HostRuntime) -> anyhow::Result<()> {
     let mut nodes = vec![in heap; Node::default(); text.len() / 2]?;
     match read(&text, &mut declarations, &mut rows, &mut nodes) {
         Ok(used) => {
-            let reading = time_read(rt, &text, &mut declarations, &mut rows, &mut nodes)?;
+            let reading = least_time(rt, || {
+                read(&text, &mut declarations, &mut rows, &mut nodes).map(|_| ())
+            })?;
             println!(rt;
                 "read {} bytes {} s {} ns",
                 text.len(),
@@ -76,7 +55,10 @@ fn run(rt: &HostRuntime) -> anyhow::Result<()> {
             )?;
             let (d, r, n) = (used.declarations, used.rows, used.nodes);
             if d <= declarations.len() && r <= rows.len() && n <= nodes.len() {
-                let holding = time_hold(rt, &declarations[0..d], &rows[0..r], &nodes[0..n])?;
+                let (declarations, rows, nodes) = (&declarations[..d], &rows[..r], &nodes[..n]);
+                let holding = least_time(rt, || {
+                    Program::empty().hold(declarations, rows, nodes)
+                })?;
                 println!(rt;
                     "hold {} rows {} s {} ns",
                     r,

@@ -1,12 +1,18 @@
-use Rattle.std.proofs.Common.{sym}
-use Rattle.reading.proofs.Tables.{among-more, among_none, among_here}
+use Rattle.std.proofs.Common.{◌≡◌, true, false, rules, tests, arith}
+use Rattle.std.specs.Str.{bytes_eq}
+use Rattle.std.proofs.lemmas.Iterator.{IsFirst-from_position, YieldsList-from_slice}
+use Rattle.std.proofs.option.Match.{if_some, if_none}
+use Rattle.reading.proofs.Tables.{among_here, among_none}
 use Rattle.reading.proofs.names.find.Goals as goal
 
-pub returns-then-same_bytes : goal.returns-then-same_bytes
-returns-then-same_bytes c = among_here c.args.word.now c.args.names.now c.each.i c.each.invariant _ c.each-test.true (sym c.if-same_bytes.ensures)
-
-pub each-preserved : goal.each-preserved
-each-preserved c = among-more c.args.word.now c.args.names.now c.each.i c.each.invariant _ c.each-test.true (sym c.if-same_bytes.ensures)
+pub returns-in_err-place : goal.returns-in_err-place
+returns-in_err-place c =
+    let w = c.args.word.now in
+    let first = if_none _ _ c.in_err-place.was (IsFirst-from_position _ _ _ (λ x. bytes_eq x.now w ≡ true) (λ x. bytes_eq x.now w ≡ false) c.position.ensures.ran (YieldsList-from_slice _ c.iter.ensures.rest) (λ x q k. search (rules, tests)) (λ x q k. search (rules, tests))) in
+    rw c.from_residual.ensures (among_none w c.args.names.now (λ k d lt. first k d (omega arith) lt))
 
 pub returns : goal.returns
-returns c = among_none c.args.word.now c.args.names.now c.each.i c.each.invariant c.each-test.false
+returns c =
+    let w = c.args.word.now in
+    let first = if_some _ _ _ c.in_ok-place.was (IsFirst-from_position _ _ _ (λ x. bytes_eq x.now w ≡ true) (λ x. bytes_eq x.now w ≡ false) c.position.ensures.ran (YieldsList-from_slice _ c.iter.ensures.rest) (λ x q k. search (rules, tests)) (λ x q k. search (rules, tests))) in
+    among_here w c.args.names.now c.in_ok-place.place first.0 first.1
