@@ -1,6 +1,6 @@
 -- A numeral read digit by digit.
 use Rattle.std.proofs.Common.{◌≡◌, ℕ, ◌+◌, ◌-◌, ◌*◌, ◌<◌, ◌≤◌, Bool, true, false, cond, ◌&&◌, leb, List, [], ◌∷◌, length, get_or, drop, Some, None, Option, sym, refl, ap, ◌∙◌, ⊎_elim, add-one, arith, drop-cons}
-use Rattle.std.proofs.lemmas.Bool.{cond-true, cond-false, and_right, cases_Bool}
+use Rattle.std.proofs.lemmas.Bool.{cond-true, cond-false, and_left, and_right, cases_Bool}
 use Rattle.std.proofs.lemmas.Bool.Decides.{nat_tests}
 use Rattle.std.proofs.lemmas.List.{drop_all}
 use Rattle.letters.specs.Classes.{is_digit, every}
@@ -68,18 +68,14 @@ module _ (n i : ℕ) (ds : List ℕ) (h : i < length ds) where
   unfolding fits
   no e = go-next n i ds h ∙ cond-false _ _ _ e
 
-  pub go_low : get_or ds i 0 < 48 → go n (drop i ds) ≡ None
+  pub go_no : is_digit (get_or ds i 0) ≡ false → go n (drop i ds) ≡ None
   unfolding fits
-  go_low l = no (grind (arith, nat_tests))
-
-  pub go_high : 57 < get_or ds i 0 → go n (drop i ds) ≡ None
-  unfolding fits
-  go_high l = no (grind (arith, nat_tests))
+  go_no e = no (and_left _ _ e)
 
   pub go_big : 2147483647 < more n (get_or ds i 0) → go n (drop i ds) ≡ None
   unfolding fits
   go_big l = no (grind (arith, nat_tests))
 
-  pub go_ok : 48 ≤ get_or ds i 0 → get_or ds i 0 ≤ 57 → more n (get_or ds i 0) ≤ 2147483647 → go n (drop i ds) ≡ go (more n (get_or ds i 0)) (drop (i + 1) ds)
+  pub go_ok : is_digit (get_or ds i 0) ≡ true → more n (get_or ds i 0) ≤ 2147483647 → go n (drop i ds) ≡ go (more n (get_or ds i 0)) (drop (i + 1) ds)
   unfolding fits
-  go_ok l r s = let e : fits ≡ true = grind (arith, nat_tests) in go-next n i ds h ∙ cond-true _ _ _ e
+  go_ok d s = let e : fits ≡ true = grind (arith, nat_tests) in go-next n i ds h ∙ cond-true _ _ _ e

@@ -57,7 +57,7 @@ pub fn keyword_of(word: &[u8]) -> Option<Keyword>
 }
 
 impl Keyword {
-    // How the keyword is written.
+    // How the keyword is written. Not by Display: who writes into lent places needs the bytes, and no formatter.
     pub fn text(self) -> &'static str
         ensures { result.now ≡ keyword_bytes self }
     {

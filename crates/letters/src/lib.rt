@@ -13,4 +13,4 @@ pub use keywords::{Keyword, NotAKeyword, keyword_of};
 pub use numerals::numeral_value;
 pub use symbols::{NotASymbol, Symbol};
 pub use texts::{ScanError, TEXT_BYTES, scan, token_laws};
-pub use tokens::{Lexed, Token, next_token};
+pub use tokens::{Lexed, NAME_BYTES, Token, next_token};

@@ -2,10 +2,13 @@
 ghost use Rattle.std.specs.Prelude.{◌≡◌};
 ghost use Rattle.letters.specs.Numerals.{numeral_of};
 
+use super::classes::is_digit;
+
 // the largest value
 const MOST: u64 = 2147483647;
 
-// The value of digits that are a numeral: decimal, up to 2147483647, no leading zero except `0` itself.
+// The value of digits that are a numeral: decimal, up to 2147483647, no leading zero except `0` itself. Not by `parse`, which takes a sign and
+// leading zeros.
 pub fn numeral_value(digits: &[u8]) -> Option<u32>
     ensures { result ≡ numeral_of digits.now }
 {
@@ -17,7 +20,7 @@ pub fn numeral_value(digits: &[u8]) -> Option<u32>
     }
     let mut sum: u64 = 0;
     for d in digits {
-        if *d < b'0' || *d > b'9' {
+        if !is_digit(*d) {
             return None;
         }
         sum = sum * 10 + (*d - b'0') as u64;

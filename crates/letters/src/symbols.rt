@@ -47,7 +47,7 @@ impl TryFrom<char> for Symbol {
 }
 
 impl Symbol {
-    // How the symbol is written.
+    // How the symbol is written. Not by Display: who writes into lent places needs the bytes, and no formatter.
     pub fn text(self) -> &'static str
         ensures { result.now ≡ symbol_bytes self }
     {

@@ -30,7 +30,7 @@ pub struct Lexed<'a> {
 }
 
 // the longest name
-const NAME_BYTES: usize = 15;
+pub const NAME_BYTES: usize = 15;
 
 // How many bytes in front pass a test, up to the first that does not.
 fn run<F: Fn(u8) -> bool>(bytes: &[u8], test: F) -> usize
@@ -70,10 +70,10 @@ fn symbol_token<'a>(text: &'a [u8]) -> Result<(Token<'a>, usize), Reason>
     match text {
         [] => Ok((Token::End, 0)),
         [b':', b'=', ..] => Ok((Token::Symbol(Symbol::Assign), 2)),
-        [byte, ..] => match Symbol::try_from(*byte as char) {
-            Ok(symbol) => Ok((Token::Symbol(symbol), 1)),
-            Err(_) => Err(Reason::StrayByte),
-        },
+        [byte, ..] => {
+            let symbol = Symbol::try_from(*byte as char).map_err(|_| Reason::StrayByte)?;
+            Ok((Token::Symbol(symbol), 1))
+        }
     }
 }
 
@@ -105,12 +105,11 @@ pub fn next_token<'a>(text: &'a [u8], at: usize) -> Result<Lexed<'a>, Refusal>
 {
     let from = at.min(text.len());
     let start = from + run(&text[from..], is_blank);
-    match front_token(&text[start..]) {
-        Ok((token, length)) => Ok(Lexed {
-            token,
-            start,
-            end: start + length,
-        }),
-        Err(reason) => Err(Refusal::new(reason, start)),
-    }
+    let refuse = |reason| Refusal::new(reason, start);
+    let (token, length) = front_token(&text[start..]).map_err(refuse)?;
+    Ok(Lexed {
+        token,
+        start,
+        end: start + length,
+    })
 }

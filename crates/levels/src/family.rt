@@ -18,11 +18,9 @@ pub trait LevelFamily {
     fn is_code(&self, n: u32) -> bool
         ensures { result ≡ code self.now n };
 
-    // The join of two codes.
+    // The join of two codes. Of other numbers it may be anything.
     fn join_codes(&self, a: u32, b: u32) -> u32
-        requires first { code self.now a ≡ true }
-        requires second { code self.now b ≡ true }
-        ensures { result ≡ joined self.now a b };
+        ensures { code self.now a ≡ true → code self.now b ≡ true → result ≡ joined self.now a b };
 
     // The join, or none where either number is no code.
     fn join(&self, a: u32, b: u32) -> Option<u32>

@@ -4,7 +4,8 @@
 ghost use Rattle.std.specs.Prelude.{◌≡◌, ◌+◌, ◌-◌, ◌^◌, ◌<◌, min, [], ◌∷◌, ◌++◌, length, take, replicate};
 ghost use Rattle.lists.specs.Overlay.{overlay, Laid};
 
-// A list that is being written, and how many of its places are used, whether they found room or not.
+// A list that is being written, and how many of its places are used, whether they found room or not: a count that may go past the end, as
+// no list's own length can.
 #[derive(Drop)]
 pub struct Places<'a, T> {
     pub cells: &'a mut [T],
@@ -53,26 +54,7 @@ impl<'a, T: Copy> Places<'a, T> {
     }
 }
 
-// Writes `x` at place `i`, or nothing where the list ends before it.
-pub fn put<T: Copy>(xs: &mut [T], i: usize, x: T)
-    ensures { xs.new ≡ overlay xs.old i (x ∷ []) }
-{
-    if i < xs.len() {
-        xs[i] = x;
-    }
-}
-
-// Writes `x` behind the `used` first places, and answers how many are used then. The count stops at the largest `usize`.
-pub fn push<T: Copy>(xs: &mut [T], used: usize, x: T) -> usize
-    ensures written { xs.new ≡ overlay xs.old used (x ∷ []) }
-    ensures count { result ≡ min (used + 1) 18446744073709551615 }
-    ensures laid { used + 1 < 2 ^ 64 → Laid xs.old used (x ∷ []) xs.new result }
-{
-    put(xs, used, x);
-    used.saturating_add(1)
-}
-
-// Writes `x` into every place from `from` on.
+// Writes `x` into every place from `from` on. Not by `fill`, which asks that a clone can't fail, and so more of callers.
 pub fn blank<T: Copy>(xs: &mut [T], from: usize, x: T)
     ensures { xs.new ≡ take from xs.old ++ replicate (length xs.old - from) x }
 {

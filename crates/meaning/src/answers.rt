@@ -36,7 +36,7 @@ pub enum Call {
     Totals,
 }
 
-// What a call answers.
+// What a call answers. Not a Result: a call that is left out is neither accepted nor refused, and two runs are compared answer by answer.
 #[derive(Clone, Copy, PartialEq, Eq, Debug)]
 pub enum Answer {
     // the run's state does not have the call

@@ -63,14 +63,14 @@ impl<'a, 'l, 'r> Reader<'a, 'l, 'r> {
     {
         let lexed = next_token(self.cursor.text, self.cursor.at)?;
         match lexed.token {
-            Token::Name(word) => match find(self.names, word) {
-                Some(variable) => {
-                    self.cursor.at = lexed.end;
-                    self.assign(variable)?;
-                    Ok(true)
-                }
-                None => Err(Refusal::new(Reason::Undeclared, lexed.start)),
-            },
+            Token::Name(word) => {
+                let Some(variable) = find(self.names, word) else {
+                    return Err(Refusal::new(Reason::Undeclared, lexed.start));
+                };
+                self.cursor.at = lexed.end;
+                self.assign(variable)?;
+                Ok(true)
+            }
             Token::Keyword(keyword) => match keyword {
                 Keyword::Skip => {
                     self.cursor.at = lexed.end;

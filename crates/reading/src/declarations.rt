@@ -12,21 +12,15 @@ use super::cursor::Cursor;
 use super::names::find;
 use super::takes::Fixed;
 use arrayvec::ArrayVec;
-use letters::{Keyword, Symbol, Token, next_token};
+use letters::{Keyword, NAME_BYTES, Symbol, Token, next_token};
 use lists::Places;
 use refusals::{Reason, Refusal};
-use syntax::{Declaration, Name};
-
-// how many variables a script may have
-pub const VARIABLES: usize = 256;
-
-// how long a name may be
-const NAME_BYTES: usize = 15;
+use syntax::{Declaration, Name, VARIABLES};
 
 // The names that are declared, in the order of their declarations.
 pub type Names<'a> = ArrayVec<&'a [u8], 256>;
 
-// A name with zeros behind it; of a longer word, its first 15 bytes.
+// A name with zeros behind it; of a longer word, its first 15 bytes. No conversion of `Name`, which would have to turn longer words away.
 fn name_of(word: &[u8]) -> Name
     ensures length { length word.now ≤ 15 → result.length ≡ length word.now }
     ensures bytes { length word.now ≤ 15 → result.bytes ≡ word.now ++ replicate (15 - length word.now) 0 }
@@ -41,20 +35,18 @@ fn name_of(word: &[u8]) -> Name
 }
 
 // Whether no variable of that name may be declared: there is one, or there is no room for another.
-fn is_taken(names: &[&[u8]], word: &[u8]) -> bool
-    requires { length names.now ≤ 256 }
-    ensures { result ≡ (among word.now (heard names.now) || nat_le 256 (length (heard names.now))) }
+fn is_taken(names: &Names<'_>, word: &[u8]) -> bool
+    ensures { result ≡ (among word.now (heard names.now.items) || nat_le 256 (length (heard names.now.items))) }
 {
-    find(names, word).is_some() || names.len() >= VARIABLES
+    find(names.as_slice(), word).is_some() || names.len() >= VARIABLES
 }
 
 impl<'a> Cursor<'a> {
     // Goes behind a name that is not declared yet, with room for it, and answers it.
-    fn take_new_name(&mut self, names: &[&[u8]]) -> Result<&'a [u8], Refusal>
-        requires { length names.now ≤ 256 }
+    fn take_new_name(&mut self, names: &Names<'_>) -> Result<&'a [u8], Refusal>
         ensures same { self.new.text ≡ self.old.text }
-        ensures onward { IfOk result (λ _. (self.old.at < self.new.at) × (length names.now < 256)) }
-        ensures read { (ps : List Piece) (f : Ending) → Ahead self.old.text.now self.old.at ps f → MatchResult result (λ x. NewNameRead self.old.text.now (heard names.now) x.now ps f self.new.at) (λ e. NewNameFails self.old.text.now (heard names.now) ps f e) }
+        ensures onward { IfOk result (λ _. (self.old.at < self.new.at) × (length names.now.items < 256)) }
+        ensures read { (ps : List Piece) (f : Ending) → Ahead self.old.text.now self.old.at ps f → MatchResult result (λ x. NewNameRead self.old.text.now (heard names.now.items) x.now ps f self.new.at) (λ e. NewNameFails self.old.text.now (heard names.now.items) ps f e) }
     {
         let lexed = next_token(self.text, self.at)?;
         let Token::Name(word) = lexed.token else {
@@ -80,11 +72,10 @@ impl<'a> Cursor<'a> {
     }
 
     // From behind `var`, goes behind the `;` of a declaration and answers its name and what it declares.
-    fn declaration(&mut self, names: &[&[u8]]) -> Result<(&'a [u8], Declaration), Refusal>
-        requires { length names.now ≤ 256 }
+    fn declaration(&mut self, names: &Names<'_>) -> Result<(&'a [u8], Declaration), Refusal>
         ensures same { self.new.text ≡ self.old.text }
-        ensures onward { IfOk result (λ _. (self.old.at < self.new.at) × (length names.now < 256)) }
-        ensures read { (ps : List Piece) (f : Ending) → Ahead self.old.text.now self.old.at ps f → MatchResult result (λ x. DeclarationRead self.old.text.now (heard names.now) x.0.now x.1 ps f self.new.at) (λ e. DeclarationFails self.old.text.now (heard names.now) ps f e) }
+        ensures onward { IfOk result (λ _. (self.old.at < self.new.at) × (length names.now.items < 256)) }
+        ensures read { (ps : List Piece) (f : Ending) → Ahead self.old.text.now self.old.at ps f → MatchResult result (λ x. DeclarationRead self.old.text.now (heard names.now.items) x.0.now x.1 ps f self.new.at) (λ e. DeclarationFails self.old.text.now (heard names.now.items) ps f e) }
     {
         let word = self.take_new_name(names)?;
         let level = self.take_level()?;
@@ -110,7 +101,7 @@ impl<'a> Cursor<'a> {
                 return Ok(());
             }
             self.at = lexed.end;
-            let (word, declaration) = self.declaration(names.as_slice())?;
+            let (word, declaration) = self.declaration(names)?;
             names.push(word);
             declarations.push(declaration);
         }

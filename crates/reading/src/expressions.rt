@@ -28,14 +28,14 @@ impl<'a, 'l, 'r> Reader<'a, 'l, 'r> {
                 self.nodes.push(Node::Numeral(value));
                 Ok(())
             }
-            Token::Name(word) => match find(self.names, word) {
-                Some(variable) => {
-                    self.cursor.at = lexed.end;
-                    self.nodes.push(Node::Variable(variable));
-                    Ok(())
-                }
-                None => Err(Refusal::new(Reason::Undeclared, lexed.start)),
-            },
+            Token::Name(word) => {
+                let Some(variable) = find(self.names, word) else {
+                    return Err(Refusal::new(Reason::Undeclared, lexed.start));
+                };
+                self.cursor.at = lexed.end;
+                self.nodes.push(Node::Variable(variable));
+                Ok(())
+            }
             Token::Symbol(symbol) => match symbol {
                 Symbol::Open => {
                     if room == 0 {

@@ -3,7 +3,8 @@ ghost use Rattle.std.specs.Prelude.{◌≡◌, ℕ, ◌<◌, ◌≤◌, true, fa
 ghost use Rattle.syntax.specs.Names.{among};
 ghost use Rattle.reading.specs.Heard.{heard};
 
-// The number of the variable with that name.
+// The number of the variable with that name. Not over the table itself, which would carry its own limit: tried, and the borrows of a reader
+// that holds the table beside its cursor were not proved.
 pub fn find(names: &[&[u8]], word: &[u8]) -> Option<u8>
     requires { length names.now ≤ 256 }
     ensures { MatchOption result (among word.now (heard names.now) ≡ false) (λ k. (k < length names.now) × (slice_index_or (heard names.now) k [] ≡ word.now) × (among word.now (heard names.now) ≡ true)) }

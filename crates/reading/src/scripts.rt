@@ -22,6 +22,9 @@ pub struct Used {
     pub nodes: usize,
 }
 
+// The three lists go from call to call one by one, as the caller lends them: of lists within one more struct that is lent nothing was proved
+// at the end.
+
 // A script of at most 1,048,576 bytes: what it would use of the lists, of which as much is written as finds room.
 fn parse(
     text: &[u8],
@@ -87,6 +90,7 @@ pub fn read(
         blank_all(declarations, rows, nodes);
         return Err(Refusal::new(Reason::TextTooLong, 0));
     }
+    // not by `?`: a refusal leaves blanks
     let used = match parse(text, declarations, rows, nodes) {
         Ok(used) => used,
         Err(refusal) => {

@@ -34,10 +34,7 @@ impl Fixed for Symbol {
     ghost fixes = { fixed_symbol };
 
     fn is(self, token: Token) -> bool {
-        match token {
-            Token::Symbol(symbol) => symbol == self,
-            _ => false,
-        }
+        matches!(token, Token::Symbol(symbol) if symbol == self)
     }
 }
 
@@ -49,10 +46,7 @@ impl Fixed for Keyword {
     ghost fixes = { fixed_keyword };
 
     fn is(self, token: Token) -> bool {
-        match token {
-            Token::Keyword(keyword) => keyword == self,
-            _ => false,
-        }
+        matches!(token, Token::Keyword(keyword) if keyword == self)
     }
 }
 
@@ -99,6 +93,9 @@ impl<'a> Cursor<'a> {
         Ok(())
     }
 
+    // A numeral and an operator are taken by two methods: what is expected, the token that was read and the bound of its value would be
+    // three ghost parameters of one.
+
     // Goes behind a numeral, and answers its value.
     pub fn take_numeral(&mut self) -> Result<u32, Refusal>
         ensures same { self.new.text ≡ self.old.text }
@@ -107,13 +104,11 @@ impl<'a> Cursor<'a> {
         ensures read { (names : List (List ℕ)) (ps : List Piece) (f : Ending) → Ahead self.old.text.now self.old.at ps f → MatchResult result (λ x. Passed self.old.text.now names (a_numeral ∷ []) (λ rest. numeral x ∷ rest) ps f self.new.at × (x ≤ 2147483647)) (λ e. Fails self.old.text.now names (a_numeral ∷ []) ps f e) }
     {
         let lexed = next_token(self.text, self.at)?;
-        match lexed.token {
-            Token::Numeral { value, .. } => {
-                self.at = lexed.end;
-                Ok(value)
-            }
-            _ => Err(Refusal::new(Reason::Unexpected, lexed.start)),
-        }
+        let Token::Numeral { value, .. } = lexed.token else {
+            return Err(Refusal::new(Reason::Unexpected, lexed.start));
+        };
+        self.at = lexed.end;
+        Ok(value)
     }
 
     // Goes behind an operator, and answers which it is.
@@ -124,12 +119,10 @@ impl<'a> Cursor<'a> {
         ensures read { (names : List (List ℕ)) (ps : List Piece) (f : Ending) → Ahead self.old.text.now self.old.at ps f → MatchResult result (λ x. Passed self.old.text.now names (an_operator ∷ []) (λ rest. operator_terminal x ∷ rest) ps f self.new.at) (λ e. Fails self.old.text.now names (an_operator ∷ []) ps f e) }
     {
         let lexed = next_token(self.text, self.at)?;
-        match operator_of(lexed.token) {
-            Some(operator) => {
-                self.at = lexed.end;
-                Ok(operator)
-            }
-            None => Err(Refusal::new(Reason::Unexpected, lexed.start)),
-        }
+        let Some(operator) = operator_of(lexed.token) else {
+            return Err(Refusal::new(Reason::Unexpected, lexed.start));
+        };
+        self.at = lexed.end;
+        Ok(operator)
     }
 }

@@ -58,7 +58,8 @@ pub enum Reason {
 }
 
 impl Reason {
-    // The number by which the reason is known.
+    // The number by which the reason is known. A method beside `layer`: a conversion would not say which of the two
+    // it gives.
     pub fn number(self) -> u8
         ensures { result ≡ reason_number self }
     {

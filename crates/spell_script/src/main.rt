@@ -6,9 +6,7 @@ use reading::read;
 use spelling::spell;
 use std::io::{Read, Write};
 use syntax::{Declaration, Node, Program, Row};
-
-// the most variables of a script
-const VARIABLES: usize = 256;
+use workspace::Workspace;
 
 // Prints the script that three lists hold, spelled in at most so many bytes.
 fn spell_lists<'a>(
@@ -32,26 +30,27 @@ fn spell_lists<'a>(
 }
 
 fn run(rt: &HostRuntime) -> anyhow::Result<()> {
-    let heap = rt.alloc();
-    let mut text = Vec::new(heap);
+    let mut text = Vec::new(rt.alloc());
     // one byte more than a script may have is enough to refuse it
     rt.stdin()
         .take(TEXT_BYTES as u64 + 1)
         .read_to_end(&mut text)?;
-    // the shortest statement of one row has 5 bytes, and an expression has fewer nodes than half the bytes of its statement
-    let mut declarations = vec![in heap; Declaration::default(); VARIABLES]?;
-    let mut rows = vec![in heap; Row::default(); text.len() / 5]?;
-    let mut nodes = vec![in heap; Node::default(); text.len() / 2]?;
-    match read(&text, &mut declarations, &mut rows, &mut nodes) {
+    let mut lists = Workspace::for_text(rt.alloc(), text.len())?;
+    match read(
+        &text,
+        &mut lists.declarations,
+        &mut lists.rows,
+        &mut lists.nodes,
+    ) {
         Ok(used) => {
             // a token is spelled as it stood, and one byte follows it
             let bytes = text.len().saturating_mul(2).min(TEXT_BYTES);
             spell_lists(
                 rt,
                 bytes,
-                &declarations[..used.declarations],
-                &rows[..used.rows],
-                &nodes[..used.nodes],
+                &lists.declarations[..used.declarations],
+                &lists.rows[..used.rows],
+                &lists.nodes[..used.nodes],
             )?;
         }
         Err(refusal) => println!(rt; "{refusal}")?,

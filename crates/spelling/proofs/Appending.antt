@@ -34,7 +34,3 @@ appended_as {xs = xs} {i = i} e p = record { gives = p.gives ∙ ap (λ l. overl
 -- the buffer keeps its length
 pub same_length : {xs ys us : List ℕ} {i j : ℕ} → Appended xs i us ys j → length ys ≡ length xs
 same_length {xs = xs} {us = us} {i = i} p = ap length p.gives ∙ length-overlay xs i us
-
--- one run behind another, in a chain that goes on
-pub appended_then : {xs ys zs us vs : List ℕ} {i j k : ℕ} → length xs ≤ 18446744073709551615 → Appended xs i us ys j → (length ys ≤ 18446744073709551615 → Appended ys j vs zs k) → Appended xs i (us ++ vs) zs k
-appended_then h p f = let e = same_length p in appended_more h p (f (omega (arith, e)))

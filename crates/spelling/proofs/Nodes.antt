@@ -1,7 +1,8 @@
 -- The node at a place of a held program, and the expression that begins there.
-use Rattle.std.proofs.Common.{◌≡◌, ℕ, zero, suc, ◌+◌, ◌<◌, ◌≤◌, List, [], ◌∷◌, length, get_or, drop, sym, refl, ap, ◌∙◌, subst, arith, length-drop}
+use Rattle.std.proofs.Common.{◌≡◌, ℕ, zero, suc, ◌+◌, ◌<◌, List, [], ◌∷◌, length, get_or, drop, sym, refl, ap, ◌∙◌, subst, arith, length-drop}
 use Rattle.std.proofs.lemmas.List.{drop_more, drop-drop}
 use Rattle.values.specs.declared.Operator.{Operator}
+use Rattle.lists.specs.declared.Places.{Places}
 use Rattle.letters.specs.declared.symbols.Symbol.TheVariants as mark
 use Rattle.syntax.specs.declared.form.Node.{Node}
 use Rattle.syntax.specs.declared.form.Node.TheVariants.{Numeral, Variable, Apply}
@@ -10,11 +11,13 @@ use Rattle.syntax.specs.declared.held.Program.{Program}
 use Rattle.syntax.specs.Names.{spelled, spellings}
 use Rattle.syntax.specs.Trees.{Expression, number, variable, apply, size, InRange}
 use Rattle.syntax.specs.Form.{nodes_onto}
+use Rattle.syntax.specs.Held.{Held}
 use Rattle.syntax.proofs.Complete.{drop_nodes, length_nodes}
+use Rattle.syntax.proofs.HeldRows.{held_program}
 use Rattle.reading.specs.Grammar.{name, numeral, symbol, operator_terminal}
-use Rattle.spelling.specs.Buffers.{Appended}
+use Rattle.spelling.specs.Buffers.{Put}
 use Rattle.spelling.specs.Parts.{token_bytes, expression_bytes, names_held, ExpressionAt, Writes, EndsAt}
-use Rattle.spelling.proofs.Appending.{appended_more, appended_then, appended_as}
+use Rattle.spelling.proofs.Putting.{put_more, put_as}
 
 -- the name of a declared variable
 pub name_at : (ds : List Declaration) (v : ℕ) (d : Declaration) → v < length ds → spelled (get_or ds v d).name ≡ get_or (spellings ds) v []
@@ -62,9 +65,8 @@ module _ (p : Program) where
     from x e = sym (drop_more p.nodes.now at (Numeral 0) lt ∙ ap (λ y. y ∷ drop (at + 1) p.nodes.now) e)
 
     -- a numeral
-    pub numeral_writes : (n : ℕ) → get_or p.nodes.now at (Numeral 0) ≡ Numeral n → (before after : List ℕ) (used count : ℕ) → Appended before used (token_bytes (numeral n)) after count
-        → Writes p at (expression_bytes (names_held p)) before used after count
-    numeral_writes n g before after used count w e rest h = appended_as (ap (expression_bytes (names_held p)) (sym (is_number n _ e rest (from (Numeral n) g ∙ h)))) w
+    pub numeral_writes : (n : ℕ) → get_or p.nodes.now at (Numeral 0) ≡ Numeral n → {a b : Places ℕ} → Put a b (token_bytes (numeral n)) → Writes p at (expression_bytes (names_held p)) a b
+    numeral_writes n g w e rest h = put_as (ap (expression_bytes (names_held p)) (sym (is_number n _ e rest (from (Numeral n) g ∙ h)))) w
 
     pub numeral_ends : (n : ℕ) → get_or p.nodes.now at (Numeral 0) ≡ Numeral n → EndsAt p at (at + 1)
     numeral_ends n g e rest h = ap (λ x. at + size x) (sym (is_number n _ e rest (from (Numeral n) g ∙ h)))
@@ -73,9 +75,9 @@ module _ (p : Program) where
     pub variable_fits : (v : ℕ) → get_or p.nodes.now at (Numeral 0) ≡ Variable v → ExpressionAt p at → v < length p.declarations.now
     variable_fits v g s = subst (InRange (length p.declarations.now)) (is_variable v _ s.expression s.rest (from (Variable v) g ∙ s.is)) s.ranged
 
-    pub variable_writes : (v : ℕ) → get_or p.nodes.now at (Numeral 0) ≡ Variable v → (before after : List ℕ) (used count : ℕ)
-        → Appended before used (token_bytes (name (get_or (names_held p) v []))) after count → Writes p at (expression_bytes (names_held p)) before used after count
-    variable_writes v g before after used count w e rest h = appended_as (ap (expression_bytes (names_held p)) (sym (is_variable v _ e rest (from (Variable v) g ∙ h)))) w
+    pub variable_writes : (v : ℕ) → get_or p.nodes.now at (Numeral 0) ≡ Variable v → {a b : Places ℕ}
+        → Put a b (token_bytes (name (get_or (names_held p) v []))) → Writes p at (expression_bytes (names_held p)) a b
+    variable_writes v g w e rest h = put_as (ap (expression_bytes (names_held p)) (sym (is_variable v _ e rest (from (Variable v) g ∙ h)))) w
 
     pub variable_ends : (v : ℕ) → get_or p.nodes.now at (Numeral 0) ≡ Variable v → EndsAt p at (at + 1)
     variable_ends v g e rest h = ap (λ x. at + size x) (sym (is_variable v _ e rest (from (Variable v) g ∙ h)))
@@ -106,16 +108,20 @@ module _ (p : Program) where
           let z = ap size t.is in
           omega (arith, b, c, z)
 
-      pub apply_writes : (middle : ℕ) → EndsAt p (at + 1) middle → (before b1 b2 b3 b4 after : List ℕ) (used u1 u2 u3 u4 count : ℕ) → length before ≤ 18446744073709551615
-          → Appended before used (token_bytes (symbol mark.Open)) b1 u1
-          → Writes p (at + 1) (expression_bytes (names_held p)) b1 u1 b2 u2
-          → Appended b2 u2 (token_bytes (operator_terminal o)) b3 u3
-          → Writes p middle (expression_bytes (names_held p)) b3 u3 b4 u4
-          → Appended b4 u4 (token_bytes (symbol mark.Close)) after count
-          → Writes p at (expression_bytes (names_held p)) before used after count
-      apply_writes middle ends before b1 b2 b3 b4 after used u1 u2 u3 u4 count small opened left sign right closed e rest h =
+      pub apply_writes : (middle : ℕ) → EndsAt p (at + 1) middle → {a b c d f g : Places ℕ}
+          → Put a b (token_bytes (symbol mark.Open))
+          → Writes p (at + 1) (expression_bytes (names_held p)) b c
+          → Put c d (token_bytes (operator_terminal o))
+          → Writes p middle (expression_bytes (names_held p)) d f
+          → Put f g (token_bytes (symbol mark.Close))
+          → Writes p at (expression_bytes (names_held p)) a g
+      apply_writes middle ends opened left sign right closed e rest h =
           let t = parts e rest h in
           let b = ends t.left _ t.nodes in
           let l = left t.left _ t.nodes in
           let r = right t.right rest (onward (at + 1) middle t.left _ t.nodes b) in
-          appended_as (ap (expression_bytes (names_held p)) (sym t.is)) (appended_then small opened (λ h. appended_then h l (λ h. appended_then h sign (λ h. appended_more h r closed))))
+          put_as (ap (expression_bytes (names_held p)) (sym t.is)) (put_more opened (put_more l (put_more sign (put_more r closed))))
+
+-- what is known of every held program
+pub held : (p : Program) → Held p
+held = held_program

@@ -2,6 +2,7 @@
 use Rattle.std.proofs.Common.{◌≡◌, ℕ, ◌-◌, ◌≤◌, List, ◌++◌, length, take, replicate, sym, ap, ◌∙◌, subst, inl, inr, ⊎_elim, arith, take_at}
 use Rattle.refusals.specs.declared.Reason.{Reason}
 use Rattle.refusals.specs.declared.Refusal.{Refusal}
+use Rattle.lists.specs.declared.Places.{Places}
 use Rattle.lists.specs.Overlay.{Laid}
 use Rattle.lists.proofs.Laws.{blank-behind}
 use Rattle.syntax.specs.declared.held.Program.{Program}
@@ -9,18 +10,20 @@ use Rattle.syntax.specs.Names.{spellings}
 use Rattle.syntax.specs.Held.{script_held, tree_rows_held, Held}
 use Rattle.reading.specs.Grammar.{TextOf}
 use Rattle.spelling.specs.Spelling.{spelling}
-use Rattle.spelling.specs.Buffers.{Appended, Fitted, Unfit, Turned}
+use Rattle.spelling.specs.Buffers.{Appended, Put, Fitted, Unfit, Turned}
 use Rattle.spelling.specs.Parts.{declarations_bytes, rows_bytes, names_held}
-use Rattle.spelling.proofs.Appending.{appended_more, appended_as, same_length}
+use Rattle.spelling.proofs.Appending.{same_length}
+use Rattle.spelling.proofs.Putting.{put_more, put_as}
 use Rattle.spelling.proofs.Appends.{spelling_parts}
 use Rattle.spelling.proofs.ReadsBack.{reads_back}
 
--- declarations and rows make the spelling
-pub whole : (p : Program) → Held p → {x y z : List ℕ} {d n : ℕ} → length x ≤ 18446744073709551615
-    → Appended x 0 (declarations_bytes p.declarations.now) y d → Appended y d (rows_bytes (names_held p) (tree_rows_held p)) z n → Appended x 0 (spelling (script_held p)) z n
-whole p held small a b =
+-- declarations and rows, written from the front of a buffer, make the spelling
+pub whole : (p : Program) → Held p → {a b c : Places ℕ} {x z : List ℕ} → length x ≤ 18446744073709551615 → x ≡ a.cells.now → a.used ≡ 0 → z ≡ c.cells.now
+    → Put a b (declarations_bytes p.declarations.now) → Put b c (rows_bytes (names_held p) (tree_rows_held p)) → Appended x 0 (spelling (script_held p)) z c.used
+whole p held {a} {b} {c} long before start after first second =
     let parts = ap (λ ds. declarations_bytes ds ++ rows_bytes (spellings ds) (tree_rows_held p)) held.is_form.declarations_are in
-    appended_as (parts ∙ sym (spelling_parts (script_held p))) (appended_more small a b)
+    let all : Put a c (spelling (script_held p)) = put_as (parts ∙ sym (spelling_parts (script_held p))) (put_more first second) in
+    rw (before, after, sym start) (all.appended (omega (arith, ap length before), omega (arith, start)))
 
 module _ {x z t : List ℕ} {n : ℕ} (w : Appended x 0 t z n) where
   zeros : {after : List ℕ} → after ≡ replicate (length z - 0) 0 → after ≡ replicate (length x) 0

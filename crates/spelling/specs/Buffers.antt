@@ -1,7 +1,8 @@
 -- Bytes written into a buffer that may be too short, and what `spell` leaves in one.
 --
 -- `Appended xs i us ys j` says: where the first i bytes of xs were used, us is laid over it from there on, as far as it fits, which gives ys, and
--- j bytes are used then. The count goes on past the end of the buffer, and stops at the largest number of 64 bits.
+-- j bytes are used then. The count goes on past the end of the buffer, and stops at the largest number of 64 bits. `Put before after us` says
+-- the same of a buffer that keeps its own count, and that it stays the same buffer.
 --
 -- `Spelled s before r after` says: r is the answer, and `after` the buffer, of spelling s into the buffer `before`. A spelling above 1048576 bytes
 -- is refused as too long, and else one that is longer than the buffer is refused for want of room; both leave zeros only. Any other is
@@ -13,6 +14,7 @@ use Rattle.std.specs.Prelude.{◌≡◌, ℕ, ◌+◌, ◌-◌, ◌<◌, ◌≤�
 use Rattle.refusals.specs.declared.Reason.{Reason}
 use Rattle.refusals.specs.declared.Reason.TheVariants.{NoRoom, TextTooLong}
 use Rattle.refusals.specs.declared.Refusal.{Refusal}
+use Rattle.lists.specs.declared.Places.{Places}
 use Rattle.lists.specs.Overlay.{overlay}
 use Rattle.syntax.specs.Scripts.{Script}
 use Rattle.spelling.specs.Spelling.{spelling}
@@ -20,6 +22,15 @@ use Rattle.spelling.specs.Spelling.{spelling}
 pub record Appended (xs : List ℕ) (i : ℕ) (us : List ℕ) (ys : List ℕ) (j : ℕ) : Type 0 where
   pub gives : ys ≡ overlay xs i us
   pub behind : j ≡ min (i + length us) 18446744073709551615
+
+-- length and count are numbers of 64 bits, as they are in each buffer of a run
+abbrev pub Counted : Places ℕ → Type 0
+Counted a = (length a.cells.now ≤ 18446744073709551615) × (a.used ≤ 18446744073709551615)
+
+-- us is written at the next places of a buffer, which stays the same one
+pub record Put (before after : Places ℕ) (us : List ℕ) : Type 0 where
+  pub same : after.cells.ghost_name ≡ before.cells.ghost_name
+  pub appended : Counted before → Appended before.cells.now before.used us after.cells.now after.used
 
 -- what fits: the text, and zeros behind it
 pub record Fitted (text before : List ℕ) (n : ℕ) (after : List ℕ) : Type 0 where

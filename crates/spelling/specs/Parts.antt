@@ -8,6 +8,7 @@
 use Rattle.std.specs.Prelude.{◌≡◌, ℕ, ◌+◌, List, [], ◌∷◌, ◌++◌, length, drop, slice_index_or}
 use Rattle.letters.specs.declared.keywords.Keyword.TheVariants as word
 use Rattle.letters.specs.declared.symbols.Symbol.TheVariants as mark
+use Rattle.lists.specs.declared.Places.{Places}
 use Rattle.syntax.specs.declared.form.Node.{Node}
 use Rattle.syntax.specs.declared.form.Declaration.{Declaration}
 use Rattle.syntax.specs.declared.held.Program.{Program}
@@ -16,7 +17,7 @@ use Rattle.syntax.specs.Trees.{Expression, number, variable, apply, size, InRang
 use Rattle.syntax.specs.Form.{TreeRow, skips, assigns, releases, writes, stops, branches, leaves, closes, repeats, goes_back, nodes_onto}
 use Rattle.reading.specs.Grammar.{Terminal, name, numeral, keyword, symbol, operator_terminal}
 use Rattle.spelling.specs.Spelling.{terminal_bytes, separator}
-use Rattle.spelling.specs.Buffers.{Appended}
+use Rattle.spelling.specs.Buffers.{Put}
 
 -- a token with its separator
 abbrev pub token_bytes : Terminal → List ℕ
@@ -71,9 +72,9 @@ pub record ExpressionAt (p : Program) (at : ℕ) : Type 0 where
   pub ranged : InRange (length p.declarations.now) expression
 
 -- whichever expression stands there, the bytes that a function gives of it are written
-abbrev pub Writes : Program → ℕ → (Expression → List ℕ) → List ℕ → ℕ → List ℕ → ℕ → Type 0
-Writes p at bytes before used after count =
-    (e : Expression) (rest : List Node) → drop at p.nodes.now ≡ nodes_onto e rest → Appended before used (bytes e) after count
+abbrev pub Writes : Program → ℕ → (Expression → List ℕ) → Places ℕ → Places ℕ → Type 0
+Writes p at bytes before after =
+    (e : Expression) (rest : List Node) → drop at p.nodes.now ≡ nodes_onto e rest → Put before after (bytes e)
 
 -- and its nodes end at `stop`
 abbrev pub EndsAt : Program → ℕ → ℕ → Type 0

@@ -1,47 +1,57 @@
 // Expressions of a held program, written into a buffer.
 ghost use Rattle.std.specs.Prelude.{◌<◌, [], length, slice_index_or};
 ghost use Rattle.reading.specs.Grammar.{name as a_name};
-ghost use Rattle.spelling.specs.Buffers.{Appended};
+ghost use Rattle.spelling.specs.Buffers.{Put};
 ghost use Rattle.spelling.specs.Parts.{token_bytes, expression_bytes, names_held, ExpressionAt, Writes, EndsAt};
 
 use super::tokens::{put_name, put_numeral, put_operator, put_symbol};
 use letters::Symbol;
+use lists::Places;
 use syntax::{Node, Program};
 
+// The program is passed beside the buffer, here and below: in one struct of both, each clause would say that the program stays the same.
+// That a number names a variable or a node of this program is asked by each function: no type of the number alone can say of which program.
+
 // Writes the name of a variable.
-pub fn put_variable(text: &mut [u8], used: usize, program: &Program, variable: u8) -> usize
+pub fn put_variable(out: &mut Places<u8>, program: &Program, variable: u8)
     requires { variable < length program.now.declarations.now }
-    ensures { Appended text.old used (token_bytes (a_name (slice_index_or (names_held program.now) variable []))) text.new result }
+    ensures { Put out.old out.new (token_bytes (a_name (slice_index_or (names_held program.now) variable []))) }
 {
-    put_name(text, used, &program.declarations[variable as usize].name)
+    put_name(out, &program.declarations[variable as usize].name);
 }
 
-// Writes the expression that begins at node `at`. Answers how many bytes are used then, and the node behind it.
-fn put_nodes(text: &mut [u8], used: usize, program: &Program, at: usize) -> (usize, usize)
+// Writes the expression that begins at node `at`. Answers the node behind it.
+fn put_nodes(out: &mut Places<u8>, program: &Program, at: usize) -> usize
     requires within { at < length program.now.nodes.now }
     requires stands { ExpressionAt program.now at }
-    ensures writes { Writes program.now at (expression_bytes (names_held program.now)) text.old used text.new result.0 }
-    ensures ends { EndsAt program.now at result.1 }
+    ensures writes { Writes program.now at (expression_bytes (names_held program.now)) out.old out.new }
+    ensures ends { EndsAt program.now at result }
 {
     let node = program.nodes[at];
     match node {
-        Node::Numeral(number) => (put_numeral(text, used, number), at + 1),
-        Node::Variable(variable) => (put_variable(text, used, program, variable), at + 1),
+        Node::Numeral(number) => {
+            put_numeral(out, number);
+            at + 1
+        }
+        Node::Variable(variable) => {
+            put_variable(out, program, variable);
+            at + 1
+        }
         Node::Apply(operator) => {
-            let opened = put_symbol(text, used, Symbol::Open);
-            let (left, middle) = put_nodes(text, opened, program, at + 1);
-            let signed = put_operator(text, left, operator);
-            let (right, stop) = put_nodes(text, signed, program, middle);
-            (put_symbol(text, right, Symbol::Close), stop)
+            put_symbol(out, Symbol::Open);
+            let middle = put_nodes(out, program, at + 1);
+            put_operator(out, operator);
+            let stop = put_nodes(out, program, middle);
+            put_symbol(out, Symbol::Close);
+            stop
         }
     }
 }
 
 // Writes the expression that begins at node `at`.
-pub fn put_expression(text: &mut [u8], used: usize, program: &Program, at: usize) -> usize
+pub fn put_expression(out: &mut Places<u8>, program: &Program, at: usize)
     requires { ExpressionAt program.now at }
-    ensures { Writes program.now at (expression_bytes (names_held program.now)) text.old used text.new result }
+    ensures { Writes program.now at (expression_bytes (names_held program.now)) out.old out.new }
 {
-    let (count, _) = put_nodes(text, used, program, at);
-    count
+    put_nodes(out, program, at);
 }

@@ -1,27 +1,37 @@
 // Spelling a held program.
-ghost use Rattle.std.specs.Prelude.{◌≤◌, take, IfOk, MatchOption};
+ghost use Rattle.std.specs.Prelude.{◌≤◌, take, IfOk, MatchResult};
 ghost use Rattle.syntax.specs.Held.{script_held};
 ghost use Rattle.reading.specs.Grammar.{TextOf};
-ghost use Rattle.spelling.specs.Spelling.{ReadsBack};
-ghost use Rattle.spelling.specs.Buffers.{Unfit, Spelled};
+ghost use Rattle.spelling.specs.Spelling.{spelling, ReadsBack};
+ghost use Rattle.spelling.specs.Buffers.{Appended, Unfit, Spelled};
 
 use super::rows::{put_declarations, put_rows};
 use letters::TEXT_BYTES;
-use lists::blank;
+use lists::{Places, blank};
 use refusals::{Reason, Refusal};
-use syntax::{Program, held_programs_stand};
+use syntax::Program;
 
-// Why a spelling of `count` bytes is refused for a buffer of `room` bytes, if it is.
-fn unfit(count: usize, room: usize) -> Option<Reason>
-    ensures { MatchOption result ((count ≤ 1048576) × (count ≤ room)) (λ reason. Unfit count room reason) }
+// Whether a spelling of `count` bytes may be in a buffer of `room` bytes, or why not.
+fn fit(count: usize, room: usize) -> Result<(), Reason>
+    ensures { MatchResult result (λ _. (count ≤ 1048576) × (count ≤ room)) (λ reason. Unfit count room reason) }
 {
     if count > TEXT_BYTES {
-        Some(Reason::TextTooLong)
+        Err(Reason::TextTooLong)
     } else if count > room {
-        Some(Reason::NoRoom)
+        Err(Reason::NoRoom)
     } else {
-        None
+        Ok(())
     }
+}
+
+// Writes the spelling of a held program from the front of a buffer, and answers how many bytes it has.
+fn put_program(program: &Program, text: &mut [u8]) -> usize
+    ensures { Appended text.old 0 (spelling (script_held program.now)) text.new result }
+{
+    let mut out = Places::new(text);
+    put_declarations(&mut out, program.declarations);
+    put_rows(&mut out, program);
+    out.used
 }
 
 // Writes the spelling of a held program into a buffer, with zeros behind it, and answers how many bytes it has. A spelling above
@@ -31,20 +41,13 @@ pub fn spell(program: &Program, text: &mut [u8]) -> Result<usize, Refusal>
     ensures spelled { Spelled (script_held program.now) text.old result text.new }
     ensures reads_back { IfOk result (λ n. TextOf (take n text.new) (script_held program.now)) }
 {
-    // every row of a held program can be read, and so can its expression
-    held_programs_stand();
-    let declared = put_declarations(text, 0, program.declarations);
-    let count = put_rows(text, declared, program);
-    match unfit(count, text.len()) {
-        Some(reason) => {
-            blank(text, 0, 0);
-            Err(Refusal::new(reason, 0))
-        }
-        None => {
-            blank(text, count, 0);
-            Ok(count)
-        }
+    let count = put_program(program, text);
+    if let Err(reason) = fit(count, text.len()) {
+        blank(text, 0, 0);
+        return Err(Refusal::new(reason, 0));
     }
+    blank(text, count, 0);
+    Ok(count)
 }
 
 // The spelling of a well-formed script is a text of that script, if it is not too long for a text.

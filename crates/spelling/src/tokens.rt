@@ -1,13 +1,14 @@
 // Tokens written into a buffer, each with its separator. What does not fit is dropped, and counting goes on.
-ghost use Rattle.std.specs.Prelude.{◌≡◌, [], ◌∷◌, ◌++◌, decimal};
+ghost use Rattle.std.specs.Prelude.{◌≡◌, [], ◌∷◌, ◌++◌};
 ghost use Rattle.reading.specs.Grammar.{name as a_name, numeral as a_numeral, keyword as a_keyword, symbol as a_symbol, operator_terminal};
 ghost use Rattle.syntax.specs.Names.{spelled};
 ghost use Rattle.spelling.specs.Spelling.{keyword_separator, symbol_separator};
-ghost use Rattle.spelling.specs.Buffers.{Appended};
+ghost use Rattle.spelling.specs.Buffers.{Put};
 ghost use Rattle.spelling.specs.Parts.{token_bytes};
 
+use itoa::Buffer;
 use letters::{Keyword, Symbol};
-use lists::push;
+use lists::Places;
 use syntax::Name;
 use values::Operator;
 
@@ -15,23 +16,21 @@ const SPACE: u8 = b' ';
 
 const LINE_FEED: u8 = b'\n';
 
-// Writes bytes behind the `used` first ones, and answers how many are used then.
-fn put_bytes(text: &mut [u8], used: usize, bytes: &[u8]) -> usize
-    ensures { Appended text.old used bytes.now text.new result }
+// Writes bytes at the next places.
+fn put_bytes(out: &mut Places<u8>, bytes: &[u8])
+    ensures { Put out.old out.new bytes.now }
 {
-    let mut count = used;
     'each: for byte in bytes {
-        count = push(text, count, *byte);
+        out.push(*byte);
     }
-    count
 }
 
 // Writes bytes and then a separator.
-fn put_word(text: &mut [u8], used: usize, word: &[u8], separator: u8) -> usize
-    ensures { Appended text.old used (word.now ++ (separator ∷ [])) text.new result }
+fn put_word(out: &mut Places<u8>, word: &[u8], separator: u8)
+    ensures { Put out.old out.new (word.now ++ (separator ∷ [])) }
 {
-    let count = put_bytes(text, used, word);
-    push(text, count, separator)
+    put_bytes(out, word);
+    out.push(separator);
 }
 
 // What stands behind a keyword.
@@ -54,72 +53,49 @@ fn symbol_separator(symbol: Symbol) -> u8
     }
 }
 
+// Keywords and symbols are written by two functions: one over a trait of both, with a law for the text and the separator, would be longer.
+
 // Writes a keyword.
-pub fn put_keyword(text: &mut [u8], used: usize, keyword: Keyword) -> usize
-    ensures { Appended text.old used (token_bytes (a_keyword keyword)) text.new result }
+pub fn put_keyword(out: &mut Places<u8>, keyword: Keyword)
+    ensures { Put out.old out.new (token_bytes (a_keyword keyword)) }
 {
-    put_word(
-        text,
-        used,
-        keyword.text().as_bytes(),
-        keyword_separator(keyword),
-    )
+    put_word(out, keyword.text().as_bytes(), keyword_separator(keyword));
 }
 
 // Writes a symbol.
-pub fn put_symbol(text: &mut [u8], used: usize, symbol: Symbol) -> usize
-    ensures { Appended text.old used (token_bytes (a_symbol symbol)) text.new result }
+pub fn put_symbol(out: &mut Places<u8>, symbol: Symbol)
+    ensures { Put out.old out.new (token_bytes (a_symbol symbol)) }
 {
-    put_word(
-        text,
-        used,
-        symbol.text().as_bytes(),
-        symbol_separator(symbol),
-    )
+    put_word(out, symbol.text().as_bytes(), symbol_separator(symbol));
 }
 
 // Writes an operator: seven are symbols, and one is a keyword.
-pub fn put_operator(text: &mut [u8], used: usize, operator: Operator) -> usize
-    ensures { Appended text.old used (token_bytes (operator_terminal operator)) text.new result }
+pub fn put_operator(out: &mut Places<u8>, operator: Operator)
+    ensures { Put out.old out.new (token_bytes (operator_terminal operator)) }
 {
     match operator {
-        Operator::Add => put_symbol(text, used, Symbol::Plus),
-        Operator::Subtract => put_symbol(text, used, Symbol::Minus),
-        Operator::Multiply => put_symbol(text, used, Symbol::Times),
-        Operator::Divide => put_symbol(text, used, Symbol::Over),
-        Operator::Equal => put_symbol(text, used, Symbol::Equals),
-        Operator::Less => put_symbol(text, used, Symbol::Less),
-        Operator::Maximum => put_keyword(text, used, Keyword::Max),
-        Operator::Or => put_symbol(text, used, Symbol::Bar),
+        Operator::Add => put_symbol(out, Symbol::Plus),
+        Operator::Subtract => put_symbol(out, Symbol::Minus),
+        Operator::Multiply => put_symbol(out, Symbol::Times),
+        Operator::Divide => put_symbol(out, Symbol::Over),
+        Operator::Equal => put_symbol(out, Symbol::Equals),
+        Operator::Less => put_symbol(out, Symbol::Less),
+        Operator::Maximum => put_keyword(out, Keyword::Max),
+        Operator::Or => put_symbol(out, Symbol::Bar),
     }
 }
 
 // Writes a name.
-pub fn put_name(text: &mut [u8], used: usize, name: &Name) -> usize
-    ensures { Appended text.old used (token_bytes (a_name (spelled name.now))) text.new result }
+pub fn put_name(out: &mut Places<u8>, name: &Name)
+    ensures { Put out.old out.new (token_bytes (a_name (spelled name.now))) }
 {
-    if name.length < 15 {
-        put_word(text, used, &name.bytes[0..name.length as usize], SPACE)
-    } else {
-        put_word(text, used, &name.bytes[0..15], SPACE)
-    }
-}
-
-// Writes the decimal digits of a number.
-fn put_digits(text: &mut [u8], used: usize, number: u32) -> usize
-    ensures { Appended text.old used (decimal number) text.new result }
-{
-    if number < 10 {
-        return push(text, used, b'0' + number as u8);
-    }
-    let count = put_digits(text, used, number / 10);
-    push(text, count, b'0' + (number % 10) as u8)
+    put_word(out, name.spelling(), SPACE);
 }
 
 // Writes a numeral.
-pub fn put_numeral(text: &mut [u8], used: usize, number: u32) -> usize
-    ensures { Appended text.old used (token_bytes (a_numeral number)) text.new result }
+pub fn put_numeral(out: &mut Places<u8>, number: u32)
+    ensures { Put out.old out.new (token_bytes (a_numeral number)) }
 {
-    let count = put_digits(text, used, number);
-    push(text, count, SPACE)
+    let mut digits = Buffer::new();
+    put_word(out, digits.format(number).as_bytes(), SPACE);
 }

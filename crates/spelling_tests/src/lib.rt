@@ -10,6 +10,7 @@
 //     stop 2147483647;
 #![tactic(auto)]
 
+use refusals::{Reason, Refusal};
 use spelling::spell;
 use syntax::{Declaration, Name, Node, Program, Row};
 use values::Operator;
@@ -80,22 +81,9 @@ fn nodes() -> [Node; 13] {
     ]
 }
 
-// The count, or a thousand and the number of the refusal.
-fn outcome(program: &Program, text: &mut [u8]) -> usize {
-    match spell(program, text) {
-        Ok(count) => count,
-        Err(refusal) => 1000 + refusal.number() as usize,
-    }
-}
-
 #[cfg(test)]
 mod tests {
     use super::*;
-
-    // Whether two runs of bytes are the same.
-    fn same(a: &[u8], b: &[u8]) -> bool {
-        a == b
-    }
 
     #[test]
     fn every_row_is_spelled(rt: HostRuntime) {
@@ -103,8 +91,8 @@ mod tests {
         let mut program = Program::empty();
         assert!(rt; program.hold(&declarations, &rows, &nodes).is_ok());
         let mut text = [1u8; 169];
-        assert_eq!(rt; outcome(&program, &mut text), TEXT.len());
-        assert!(rt; same(&text, TEXT));
+        assert_eq!(rt; spell(&program, &mut text), Ok(TEXT.len()));
+        assert_eq!(rt; &text[..], TEXT);
     }
 
     #[test]
@@ -113,8 +101,8 @@ mod tests {
         let mut program = Program::empty();
         assert!(rt; program.hold(&declarations, &[], &[]).is_ok());
         let mut text = [1u8; 27];
-        assert_eq!(rt; outcome(&program, &mut text), 25);
-        assert!(rt; same(&text, b"var x : 3 ;\nvar y1 : 0 ;\n\0\0"));
+        assert_eq!(rt; spell(&program, &mut text), Ok(25));
+        assert_eq!(rt; &text, b"var x : 3 ;\nvar y1 : 0 ;\n\0\0");
     }
 
     #[test]
@@ -123,8 +111,11 @@ mod tests {
         let mut program = Program::empty();
         assert!(rt; program.hold(&declarations, &[], &[]).is_ok());
         let mut text = [1u8; 24];
-        assert_eq!(rt; outcome(&program, &mut text), 1007);
-        assert!(rt; same(&text, &[0; 24]));
+        assert_eq!(rt;
+            spell(&program, &mut text),
+            Err(Refusal::new(Reason::NoRoom, 0))
+        );
+        assert_eq!(rt; text, [0; 24]);
     }
 
     // `skip ;` and a line feed are 7 bytes, so this many rows make 1048572 bytes, and one more makes too many.
@@ -133,8 +124,14 @@ mod tests {
         let rows = [Row::Skip; 149797];
         let mut program = Program::empty();
         assert!(rt; program.hold(&[], &rows[0..149796], &[]).is_ok());
-        assert_eq!(rt; outcome(&program, &mut []), 1007);
+        assert_eq!(rt;
+            spell(&program, &mut []),
+            Err(Refusal::new(Reason::NoRoom, 0))
+        );
         assert!(rt; program.hold(&[], &rows, &[]).is_ok());
-        assert_eq!(rt; outcome(&program, &mut []), 1008);
+        assert_eq!(rt;
+            spell(&program, &mut []),
+            Err(Refusal::new(Reason::TextTooLong, 0))
+        );
     }
 }

@@ -1,4 +1,5 @@
-// What the three lists of a script hold: declarations, rows and nodes.
+// What the three lists of a script hold: declarations, rows and nodes. They name each other by their places in the caller's lists:
+// a table has no heap to box a tree in, and a C interface will lend these lists.
 ghost use Rattle.std.specs.Prelude.{◌≡◌};
 ghost use Rattle.syntax.specs.Names.{spelled};
 
@@ -6,6 +7,9 @@ use values::Operator;
 
 // The greatest numeral, level and stop number.
 pub const GREATEST: u32 = 2147483647;
+
+// The most variables of a script.
+pub const VARIABLES: usize = 256;
 
 // A part of an expression. The operator stands before its two parts. The first variant, with 0, is the blank.
 #[derive(Clone, Copy, PartialEq, Eq, Debug)]
@@ -45,7 +49,8 @@ pub struct Declaration {
     pub level: u32,
 }
 
-// Defaults by hand, so that a clause and not an attribute says which value it is.
+// Defaults by hand, so that a clause says which value it is. Derived ones prove as well, but then nothing here says that a blank may be no
+// other.
 impl Default for Node {
     ghost use Rattle.syntax.specs.declared.form.Node.TheVariants.{Numeral};
 

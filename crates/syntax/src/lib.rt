@@ -8,6 +8,6 @@ mod holding;
 mod names;
 mod rows;
 
-pub use form::{Declaration, GREATEST, Name, Node, Row};
+pub use form::{Declaration, GREATEST, Name, Node, Row, VARIABLES};
 pub use held::Program;
 pub use holding::{forms_are_unique, held_programs_stand};

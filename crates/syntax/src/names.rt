@@ -4,7 +4,7 @@ ghost use Rattle.std.specs.List.{list_all};
 ghost use Rattle.letters.specs.Classes.{is_digit, is_word};
 ghost use Rattle.syntax.specs.Names.{padded, spelled, legal_name, legal_declaration, among, spellings, distinct, all_legal, well_declared};
 
-use super::form::{Declaration, GREATEST, Name};
+use super::form::{Declaration, GREATEST, Name, VARIABLES};
 use letters::{is_digit, is_word, keyword_of};
 
 // Whether there are only letters and digits.
@@ -26,10 +26,9 @@ fn all_zero(bytes: &[u8]) -> bool
 fn is_padded(bytes: &[u8; 15], count: usize) -> bool
     ensures { result ≡ padded count bytes.now }
 {
-    match bytes.split_at_checked(count) {
-        Some((word, rest)) => all_word(word) && all_zero(rest),
-        None => false,
-    }
+    bytes
+        .split_at_checked(count)
+        .is_some_and(|(word, rest)| all_word(word) && all_zero(rest))
 }
 
 // Whether a name is legal, and zeros stand behind it.
@@ -83,5 +82,5 @@ fn all_distinct(declarations: &[Declaration]) -> bool
 pub fn declarations_stand(declarations: &[Declaration]) -> bool
     ensures { result ≡ well_declared declarations.now }
 {
-    declarations.len() <= 256 && all_legal(declarations) && all_distinct(declarations)
+    declarations.len() <= VARIABLES && all_legal(declarations) && all_distinct(declarations)
 }

@@ -17,7 +17,7 @@ pub enum Open {
     Body { while_row: usize, end_row: usize },
 }
 
-// What stands in the places of a stack that are not used.
+// What stands in the places of a stack that are not used. By hand: a derived default would want a variant without numbers.
 impl Default for Open {
     fn default() -> Open {
         Open::Otherwise { end_row: 0 }

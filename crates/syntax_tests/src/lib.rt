@@ -155,14 +155,21 @@ fn random_node(number: u32) -> Node {
     }
 }
 
+// Fills a list with what is made of such numbers.
+fn fill<T: Copy, F: Fn(u32) -> T>(list: &mut [T], from: u32, make: F)
+    requires { F.IsAlwaysCallable make }
+{
+    let mut number = from;
+    'each: for item in list.iter_mut() {
+        number = next(number);
+        *item = make(number);
+    }
+}
+
 // Random rows. The last opens a while that nothing closes, so that they are no form.
 fn random_rows(from: u32) -> [Row; 9] {
-    let mut number = from;
     let mut garbage = rows();
-    'rows: for row in garbage.iter_mut() {
-        number = next(number);
-        *row = random_row(number);
-    }
+    fill(&mut garbage, from, random_row);
     garbage[8] = Row::While {
         condition: 0,
         end_row: 8,
@@ -171,12 +178,8 @@ fn random_rows(from: u32) -> [Row; 9] {
 }
 
 fn random_nodes(from: u32) -> [Node; 11] {
-    let mut number = from;
     let mut garbage = nodes();
-    'nodes: for node in garbage.iter_mut() {
-        number = next(number);
-        *node = random_node(number);
-    }
+    fill(&mut garbage, from, random_node);
     garbage
 }
 

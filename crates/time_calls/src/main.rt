@@ -7,10 +7,8 @@ use reading::read;
 use refusals::Refusal;
 use std::io::Read;
 use std::time::{Duration, Instant};
-use syntax::{Declaration, Node, Program, Row};
-
-// the most variables of a script
-const VARIABLES: usize = 256;
+use syntax::Program;
+use workspace::Workspace;
 
 const ROUNDS: u32 = 200;
 
@@ -33,15 +31,16 @@ fn least_time<F: FnMut() -> Result<(), Refusal>>(
 }
 
 fn run(rt: &HostRuntime) -> anyhow::Result<()> {
-    let heap = rt.alloc();
-    let mut text = Vec::new(heap);
+    // taken in as spell_script does it: a library's call for both would hold standard input, which no library here does
+    let mut text = Vec::new(rt.alloc());
     rt.stdin()
         .take(TEXT_BYTES as u64 + 1)
         .read_to_end(&mut text)?;
-    // the shortest statement of one row has 5 bytes, and an expression has fewer nodes than half the bytes of its statement
-    let mut declarations = vec![in heap; Declaration::default(); VARIABLES]?;
-    let mut rows = vec![in heap; Row::default(); text.len() / 5]?;
-    let mut nodes = vec![in heap; Node::default(); text.len() / 2]?;
+    let Workspace {
+        mut declarations,
+        mut rows,
+        mut nodes,
+    } = Workspace::for_text(rt.alloc(), text.len())?;
     match read(&text, &mut declarations, &mut rows, &mut nodes) {
         Ok(used) => {
             let reading = least_time(rt, || {

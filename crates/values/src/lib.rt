@@ -55,6 +55,7 @@ impl TryFrom<u8> for Operator {
     }
 }
 
+// By hand, so that a clause says what is printed.
 impl fmt::Display for UnknownOperator {
     ghost output = { λ e. Some (shown_unknown e) };
 
@@ -142,8 +143,7 @@ mod tests {
             Operator::Maximum,
             Operator::Or,
         ];
-        for number in 0..8u8 {
-            let operator = operators[usize::from(number)];
+        for (number, operator) in (0..8u8).zip(operators) {
             assert_eq!(rt; u8::from(operator), number);
             assert_eq!(rt; Operator::try_from(number), Ok(operator));
         }

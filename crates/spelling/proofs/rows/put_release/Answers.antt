@@ -1,13 +1,8 @@
 -- One part behind another.
-use Rattle.std.proofs.Common.{◌≤◌, length, arith}
-use Rattle.spelling.proofs.Appending.{appended_more, appended_then}
+use Rattle.spelling.proofs.Putting.{put_more}
 use Rattle.spelling.proofs.rows.put_release.Goals as goal
 
 pub returns : goal.returns
-returns c = λ e rest h.
-    let small : length c.args.text.now ≤ 18446744073709551615 = omega arith in
-    appended_then small c.put_target-named.ensures
-    (λ s. appended_then s c.put_keyword-released.ensures
-    (λ s. appended_then s c.put_symbol-opened.ensures
-    (λ s. appended_then s (c.put_expression-valued.ensures e rest h)
-    (λ s. appended_more s c.put_symbol-closed.ensures c.put_symbol.ensures))))
+returns c =
+    λ e rest h. put_more c.put_target.ensures (put_more c.put_keyword.ensures (put_more c.put_symbol.ensures
+    (put_more (c.put_expression.ensures e rest h) (put_more c.put_symbol-2.ensures c.put_symbol-3.ensures))))

@@ -1,9 +1,6 @@
 -- The bytes, and the separator behind them.
-use Rattle.std.proofs.Common.{◌≤◌, length, arith}
-use Rattle.spelling.proofs.Appending.{appended_one, appended_more}
+use Rattle.spelling.proofs.Putting.{put_one, put_more}
 use Rattle.spelling.proofs.tokens.put_word.Goals as goal
 
 pub returns : goal.returns
-returns c =
-    let small : length c.args.text.now ≤ 18446744073709551615 = omega arith in
-    appended_more small c.put_bytes-count.ensures (appended_one c.push.ensures.written c.push.ensures.count)
+returns c = put_more c.put_bytes.ensures (put_one c.push.ensures.same c.push.ensures.written c.push.ensures.count)

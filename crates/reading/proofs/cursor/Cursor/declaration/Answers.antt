@@ -5,7 +5,7 @@ use Rattle.reading.proofs.cursor.Cursor.declaration.Goals as goal
 
 pub returns-clause-read : goal.returns-clause-read
 returns-clause-read c = λ ps f a.
-    let names = heard c.args.names.now in
+    let names = heard c.args.names.now.items in
     let w = c.in_ok-word.word.now in
     let n = c.in_ok-word.ensures.read ps f a in
     let behind = rw c.in_ok-word.ensures.same at c.in_ok-level.ensures.read in

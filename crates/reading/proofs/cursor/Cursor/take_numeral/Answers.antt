@@ -13,8 +13,8 @@ returns-in_err-lexed-clause-read c = λ names ps f a.
     let failed : Fails c.args.self.now.text.now names (a_numeral ∷ []) ps f c.in_err-lexed.field-0.0 = λ K. fails_fault c.args.self.now.text.now c.args.self.now.at ps f a names _ _ c.in_err-lexed.ensures.next (a_numeral ∷ K) in
     search rules
 
-pub returns-in-Numeral-clause-read : goal.returns-in-Numeral-clause-read
-returns-in-Numeral-clause-read c = λ names ps f a.
+pub returns-clause-read : goal.returns-clause-read
+returns-clause-read c = λ names ps f a.
     let text = c.args.self.now.text.now in
     let x = c.in_ok-lexed.lexed in
     let l = lex.numeral c.in-Numeral.digits.now c.in-Numeral.value in

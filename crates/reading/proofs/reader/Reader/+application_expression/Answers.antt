@@ -1,4 +1,4 @@
-use Rattle.std.proofs.Common.{rules, ◌≡◌, ◌+◌, ◌-◌, ◌^◌, ◌<◌, true, [], ◌∷◌, length, get_or, sym, refl, ap, ◌∙◌, subst, arith, MatchResult}
+use Rattle.std.proofs.Common.{rules, ◌≡◌, ◌+◌, ◌-◌, ◌^◌, ◌<◌, true, false, [], ◌∷◌, length, get_or, sym, refl, ap, ◌∙◌, subst, arith, MatchResult}
 use Rattle.std.proofs.lemmas.Bool.{cond-true}
 use Rattle.refusals.specs.declared.Reason.TheVariants.{Unexpected, Undeclared, TooDeep}
 use Rattle.letters.specs.declared.symbols.Symbol.TheVariants.{Open, Close}
@@ -55,13 +55,14 @@ expression-returns-in-Some-clause-read t c = λ text names ps f has a.
     let named = subst (λ n. get_or n v [] ≡ w) has.1 c.in-Some.ensures.1 in
     let declared = subst (λ n. among w n ≡ true) has.1 c.in-Some.ensures.2 in
     let small = subst (λ n. v < length n) has.1 (omega (arith, c.in-Some.ensures.0, heard-length r.names.now)) in
-    variable_read text names c.args.room ps f _ _ _ _ _ v w (takes_in has.0 names ps f a (expression c.args.room) l x.start x.end h refl c.in_ok-lexed.ensures.inside.2 (λ K. cond-true _ _ _ declared)) named small (c.push-in-Some.ensures.laid few)
+    variable_read text names c.args.room ps f _ _ _ _ _ v w (takes_in has.0 names ps f a (expression c.args.room) l x.start x.end h refl c.in_ok-lexed.ensures.inside.2 (λ K. cond-true _ _ _ declared)) named small (c.push-in-Name.ensures.laid few)
 
-pub expression-returns-in-None-clause-read : goal.expression-returns-in-None-clause-read
-expression-returns-in-None-clause-read t c = λ text names ps f has a.
+pub expression-returns-in_default-find-clause-read : goal.expression-returns-in_default-find-clause-read
+expression-returns-in_default-find-clause-read t c = λ text names ps f has a.
     let x = c.in_ok-lexed.lexed in
     let w = c.in-Name.word.now in
-    let bad = subst (λ k. Bad names (expression c.args.room) (view k) Undeclared) (sym c.in-Name.is) (bad_word names c.args.room w (ap (among w) (sym has.1) ∙ c.in-None.ensures)) in
+    let unnamed : among w (heard c.args.self.now.names.now) ≡ false = search rules in
+    let bad = subst (λ k. Bad names (expression c.args.room) (view k) Undeclared) (sym c.in-Name.is) (bad_word names c.args.room w (ap (among w) (sym has.1) ∙ unnamed)) in
     turned_in has.0 names ps f a (expression c.args.room) x.token x.start x.end Undeclared _ c.new.ensures c.in_ok-lexed.ensures.next c.in_ok-lexed.ensures.inside.2 bad
 
 pub expression-returns-else-room-eq0-clause-read : goal.expression-returns-else-room-eq0-clause-read

@@ -1,4 +1,4 @@
-use Rattle.std.proofs.Common.{rules, ◌≡◌, ℕ, ◌+◌, ◌-◌, ◌^◌, ◌<◌, true, List, [], ◌∷◌, ◌++◌, get_or, sym, refl, ap, ◌∙◌, subst, arith, Ok, Err}
+use Rattle.std.proofs.Common.{rules, ◌≡◌, ℕ, ◌+◌, ◌-◌, ◌^◌, ◌<◌, true, false, List, [], ◌∷◌, ◌++◌, get_or, sym, refl, ap, ◌∙◌, subst, arith, Ok, Err}
 use Rattle.std.proofs.lemmas.Bool.{cond-true, true≢false}
 use Rattle.refusals.specs.declared.Reason.TheVariants.{Undeclared, TooDeep}
 use Rattle.letters.specs.declared.keywords.Keyword.TheVariants as word
@@ -62,10 +62,10 @@ list-returns-clause-read t c = λ text names ps f has a.
     (subst (λ x. ListRead text names c.args.room ps f old.rows.now.cells.now old.nodes.now.cells.now (progress old) x c.each.self.nodes.now.cells.now (progress c.each.self)) (sym none.0)
     (going_over text names c.args.room f ps g none.3)))
 
-pub statement-returns-in_err-assign-in-Some-clause-read : goal.statement-returns-in_err-assign-in-Some-clause-read
-statement-returns-in_err-assign-in-Some-clause-read t c = λ text names ps f has a.
+pub statement-returns-in_err-assign-in-Name-clause-read : goal.statement-returns-in_err-assign-in-Name-clause-read
+statement-returns-in_err-assign-in-Name-clause-read t c = λ text names ps f has a.
     let x = c.in_ok-lexed.lexed in
-    let q = c.in_err-assign-in-Some.field-0.0 in
+    let q = c.in_err-assign-in-Name.field-0.0 in
     let l = lex.name c.in-Name.word.now in
     let h = ap (λ k. token (view k) x.start x.end) (sym (c.in-Name.is)) ∙ c.in_ok-lexed.ensures.next in
     let g = found_in has.0 names ps f a l x.start x.end h refl c.in_ok-lexed.ensures.inside.2 in
@@ -73,12 +73,12 @@ statement-returns-in_err-assign-in-Some-clause-read t c = λ text names ps f has
     let named = subst (λ n. get_or n v [] ≡ c.in-Name.word.now) has.1 c.in-Some.ensures.1 in
     let declared = subst (λ n. among c.in-Name.word.now n ≡ true) has.1 c.in-Some.ensures.2 in
     let begins : (K : List Expected) → step names (statements c.args.room ∷ K) (terminal l) ≡ onward names ((the_symbol mark.Assign ∷ assigned ∷ the_symbol mark.Semicolon ∷ []) ++ (statements c.args.room ∷ K)) = λ K. cond-true _ _ _ declared in
-    let failed : Fails text names (statements c.args.room ∷ []) ps f q = one_fails text names c.args.room f ps g.0 l x.start x.end g.1 (the_symbol mark.Assign ∷ assigned ∷ the_symbol mark.Semicolon ∷ []) begins q (c.in_err-assign-in-Some.ensures.read text names c.args.room g.0 f has g.2) in
-    let is : c.from_residual-in_err-assign-in-Some.result ≡ Err q = search rules in
+    let failed : Fails text names (statements c.args.room ∷ []) ps f q = one_fails text names c.args.room f ps g.0 l x.start x.end g.1 (the_symbol mark.Assign ∷ assigned ∷ the_symbol mark.Semicolon ∷ []) begins q (c.in_err-assign-in-Name.ensures.read text names c.args.room g.0 f has g.2) in
+    let is : c.from_residual-in_err-assign-in-Name.result ≡ Err q = search rules in
     subst (OneReadBy text names c.args.room ps f c.args.self.now c.assign.new.self) (sym is) failed
 
-pub statement-returns-in_ok-assign-in-Some-clause-read : goal.statement-returns-in_ok-assign-in-Some-clause-read
-statement-returns-in_ok-assign-in-Some-clause-read t c = λ text names ps f has a.
+pub statement-returns-in_ok-assign-in-Name-clause-read : goal.statement-returns-in_ok-assign-in-Name-clause-read
+statement-returns-in_ok-assign-in-Name-clause-read t c = λ text names ps f has a.
     let x = c.in_ok-lexed.lexed in
     let l = lex.name c.in-Name.word.now in
     let h = ap (λ k. token (view k) x.start x.end) (sym (c.in-Name.is)) ∙ c.in_ok-lexed.ensures.next in
@@ -87,7 +87,7 @@ statement-returns-in_ok-assign-in-Some-clause-read t c = λ text names ps f has 
     let named = subst (λ n. get_or n v [] ≡ c.in-Name.word.now) has.1 c.in-Some.ensures.1 in
     let declared = subst (λ n. among c.in-Name.word.now n ≡ true) has.1 c.in-Some.ensures.2 in
     let begins : (K : List Expected) → step names (statements c.args.room ∷ K) (terminal l) ≡ onward names ((the_symbol mark.Assign ∷ assigned ∷ the_symbol mark.Semicolon ∷ []) ++ (statements c.args.room ∷ K)) = λ K. cond-true _ _ _ declared in
-    one_read text names c.args.room f ps g.0 l x.start x.end g.1 (the_symbol mark.Assign ∷ assigned ∷ the_symbol mark.Semicolon ∷ []) begins refl refl (subst (λ w. StatementRead text names c.args.room (the_symbol mark.Assign ∷ assigned ∷ the_symbol mark.Semicolon ∷ []) (name w) g.0 f c.args.self.now.rows.now.cells.now c.args.self.now.nodes.now.cells.now (record { at = x.end; rows = c.args.self.now.rows.now.used; nodes = c.args.self.now.nodes.now.used }) c.assign.new.self.rows.now.cells.now c.assign.new.self.nodes.now.cells.now (progress c.assign.new.self)) named (c.in_ok-assign-in-Some.ensures.read text names c.args.room g.0 f has g.2))
+    one_read text names c.args.room f ps g.0 l x.start x.end g.1 (the_symbol mark.Assign ∷ assigned ∷ the_symbol mark.Semicolon ∷ []) begins refl refl (subst (λ w. StatementRead text names c.args.room (the_symbol mark.Assign ∷ assigned ∷ the_symbol mark.Semicolon ∷ []) (name w) g.0 f c.args.self.now.rows.now.cells.now c.args.self.now.nodes.now.cells.now (record { at = x.end; rows = c.args.self.now.rows.now.used; nodes = c.args.self.now.nodes.now.used }) c.assign.new.self.rows.now.cells.now c.assign.new.self.nodes.now.cells.now (progress c.assign.new.self)) named (c.in_ok-assign-in-Name.ensures.read text names c.args.room g.0 f has g.2))
 
 pub statement-returns-in_err-skip-in-Skip-clause-read : goal.statement-returns-in_err-skip-in-Skip-clause-read
 statement-returns-in_err-skip-in-Skip-clause-read t c = λ text names ps f has a.
@@ -213,11 +213,12 @@ statement-returns-then-room-eq0-2-clause-read t c = λ text names ps f has a.
     let bad = subst (λ k. Bad names (statements c.args.room) (view k) TooDeep) (sym (c.in-Keyword.is ∙ ap case.Keyword c.in-While.is)) (deep_while names c.args.room c.if-room-eq0-2.true) in
     turned_in has.0 names ps f a (statements c.args.room) x.token x.start x.end TooDeep _ c.new-then-room-eq0-2.ensures c.in_ok-lexed.ensures.next c.in_ok-lexed.ensures.inside.2 bad
 
-pub statement-returns-in-None-clause-read : goal.statement-returns-in-None-clause-read
-statement-returns-in-None-clause-read t c = λ text names ps f has a.
+pub statement-returns-in_default-find-clause-read : goal.statement-returns-in_default-find-clause-read
+statement-returns-in_default-find-clause-read t c = λ text names ps f has a.
     let x = c.in_ok-lexed.lexed in
     let w = c.in-Name.word.now in
-    let bad = subst (λ k. Bad names (statements c.args.room) (view k) Undeclared) (sym c.in-Name.is) (unknown_name names c.args.room w (ap (among w) (sym has.1) ∙ c.in-None.ensures)) in
+    let unnamed : among w (heard c.args.self.now.names.now) ≡ false = search rules in
+    let bad = subst (λ k. Bad names (statements c.args.room) (view k) Undeclared) (sym c.in-Name.is) (unknown_name names c.args.room w (ap (among w) (sym has.1) ∙ unnamed)) in
     turned_in has.0 names ps f a (statements c.args.room) x.token x.start x.end Undeclared _ c.new.ensures c.in_ok-lexed.ensures.next c.in_ok-lexed.ensures.inside.2 bad
 
 pub statement-returns-in_default-keyword : goal.statement-returns-in_default-keyword
