@@ -3,6 +3,7 @@ use Rattle.std.proofs.Common.{◌≡◌, ℕ, zero, suc, ◌+◌, ◌<◌, ◌�
 use Rattle.std.proofs.lemmas.Bool.{le-ltb, ltb-false, or_parts}
 use Rattle.std.proofs.lemmas.List.{take-set-le, drop-set-lt}
 use mathlib.Core.Bool.{false≢true}
+use Rattle.banks.specs.Cleared.{cleared}
 use Rattle.values.proofs.Keeps as operator
 use Rattle.syntax.specs.Trees.{Expression, number, variable, apply, InRange}
 use Rattle.syntax.specs.Form.{TreeRow, skips, assigns, releases, writes, stops, branches, leaves, closes, repeats, goes_back, tree_rows, row_after_in}
@@ -15,10 +16,10 @@ use Rattle.meaning.specs.declared.answers.Standing.TheVariants.{Ended, Stopped, 
 use Rattle.meaning.specs.Families.{Family}
 use Rattle.meaning.specs.Machine.{register, value_of, row_at, registers_after, Shown, silent, printed, no_row, stopped}
 use Rattle.meaning.specs.Rewriting.{variables}
-use Rattle.meaning.specs.Runs.{Progress, is_going, settle, judge, kept_after, sheet_after, program_row, ahead, judged, step, run, taken, too_short, gone}
+use Rattle.meaning.specs.Runs.{Progress, is_going, settle, judge, kept_after, sheet_after, program_row, ahead, judged, step, run, taken, too_short, gone, lacks_registers, enterable, entered_bank}
 use Rattle.meaning.specs.RunLaws.{AllValues, RunLawsHold}
 use Rattle.meaning.proofs.Together.{going_settle, going_room, Room, kept_room, length_sheet, length_registers}
-use Rattle.meaning.proofs.Endings.{judge-more}
+use Rattle.meaning.proofs.Endings.{judge-more, settles}
 use Rattle.meaning.proofs.Alone.{run_keeps, all_unit}
 
 -- ---- settled standings
@@ -73,6 +74,18 @@ set_values (y ∷ bank) zero x h f zero = f
 set_values (y ∷ bank) zero x h f (suc i) = h (suc i)
 set_values (y ∷ bank) (suc v) x h f zero = h zero
 set_values (y ∷ bank) (suc v) x h f (suc i) = set_values bank v x (λ k. h (suc k)) f i
+
+cleared_values : (n : ℕ) (bank : List ℤ) → AllValues bank → AllValues (cleared n bank)
+unfolding cleared
+cleared_values zero bank h i = h i
+cleared_values (suc n) [] h i = h i
+cleared_values (suc n) (y ∷ bank) h zero = record { sfits = omega arith }
+cleared_values (suc n) (y ∷ bank) h (suc i) = cleared_values n bank (λ k. h (suc k)) i
+
+-- either bank, whichever a test takes
+either_values : (t : Bool) (b c : List ℤ) → AllValues b → AllValues c → AllValues (cond t b c)
+either_values true b c h g = h
+either_values false b c h g = g
 
 value_fits : (k : ℕ) (bank : List ℤ) → AllValues bank → (e : Expression) → InRange k e → SFits w32 (value_of (register bank) e)
 value_fits k bank h (number n) r = record { sfits = omega arith }
@@ -232,6 +245,9 @@ module _ (G : Family) (reader budget : ℕ) (P : Script) where
       up : {a b c : ℕ} → a ≤ b → b ≤ c → a ≤ c
       up p q = omega arith
 
+  values_entered : (bank : List ℤ) (k : ℕ) (v : ℤ) → SFits w32 v → AllValues bank → AllValues (entered_bank P bank k v)
+  values_entered bank k v f h = either_values (lacks_registers P bank) _ _ h (either_values (enterable P k) _ _ (set_values bank k v h f) h)
+
   values_stay : WellFormed P → (n : ℕ) (s : Progress) → AllValues s.bank → AllValues (Run n s).bank
   values_stay wf = keeps (λ t. AllValues t.bank) (λ t j. j) (λ t j e.
       after_values (variables P) (row_after_in 0 P.statements) (program_row P t.row) t.bank
@@ -245,11 +261,14 @@ run_laws G reader budget P = record {
   at_most = at_most G reader budget P;
   fewer_settles = fewer_settles G reader budget P;
   within_budget = within_budget G reader budget P;
+  budget_settles = settles G reader budget P;
   bank_length = bank_length G reader budget P;
   sheet_length = sheet_length G reader budget P;
   lines_fit = lines_fit G reader budget P;
   no_more_than_steps = no_more_than_steps G reader budget P;
   lines_stay = lines_stay G reader budget P;
   rest_stays = rest_stays G reader budget P;
+  values_opened = cleared_values (variables P);
+  values_entered = values_entered G reader budget P;
   values_stay = values_stay G reader budget P;
 }

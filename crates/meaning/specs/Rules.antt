@@ -54,11 +54,15 @@ rewritten_assign v j d k e =
     (then (assign (mark_register v k) (number 1))
     (single (assign k e)))
 
+-- the level of a variable into which something is released
+abbrev pub released_level : Expression
+released_level = number 0
+
 -- a release of e into variable k: made only where the guard level is 0 and no variable of e is marked
 abbrev pub rewritten_release : ℕ → ℕ → ℕ → Expression → Statements
 rewritten_release v d k e =
     single (branch (apply Equal (apply Maximum (guard_of v d) (mark_of v e)) (number 0))
-    (then (assign (level_register v k) (number 0))
+    (then (assign (level_register v k) released_level)
     (then (assign (mark_register v k) (number 1))
     (single (release k e))))
     (then skip (then skip (single skip))))

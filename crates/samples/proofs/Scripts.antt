@@ -4,7 +4,7 @@ use Rattle.syntax.specs.Trees.{number, variable, LegalExpression, nesting_in}
 use Rattle.syntax.specs.Scripts.{Script, WellFormed}
 use Rattle.meaning.specs.Families.{ladder}
 use Rattle.meaning.specs.Rewriting.{Rewritable, variables, deepest_in, none_reserved, levels_of, all_codes, never_stops_in, writes_codes_in}
-use Rattle.samples.specs.Scripts.{empty, writing, releasing, branching, looping, replacing, choosing, marking, counting, nesting, writing_up, writing_high, writing_greatest}
+use Rattle.samples.specs.Scripts.{empty, writing, releasing, branching, looping, replacing, choosing, marking, releasing_inside, guessing, counting, nesting, writing_up, writing_high, writing_greatest}
 
 a_variable : {k v : ℕ} → T (ltb v k) → LegalExpression k (variable v)
 a_variable h = record { ranged = lit< h; shallow = lit≤ tt }
@@ -49,6 +49,20 @@ pub marking_formed : WellFormed marking
 marking_formed = record {
   names = refl;
   legal = ((a_variable tt, ((lit< tt, a_number tt), tt), (tt, tt)), ((lit< tt, a_variable tt), ((lit≤ tt, a_variable tt), tt)));
+  room = lit≤ tt;
+}
+
+pub releasing_inside_formed : WellFormed releasing_inside
+releasing_inside_formed = record {
+  names = refl;
+  legal = ((a_variable tt, ((lit< tt, a_variable tt), tt), (tt, tt)), ((lit≤ tt, a_variable tt), tt));
+  room = lit≤ tt;
+}
+
+pub guessing_formed : WellFormed guessing
+guessing_formed = record {
+  names = refl;
+  legal = ((lit< tt, a_variable tt), ((lit< tt, a_variable tt), ((lit≤ tt, a_variable tt), tt)));
   room = lit≤ tt;
 }
 
@@ -115,6 +129,12 @@ choosing_rewritable = rewritable choosing tt tt tt refl refl refl refl
 
 pub marking_rewritable : Rewritable ladder marking
 marking_rewritable = rewritable marking tt tt tt refl refl refl refl
+
+pub releasing_inside_rewritable : Rewritable ladder releasing_inside
+releasing_inside_rewritable = rewritable releasing_inside tt tt tt refl refl refl refl
+
+pub guessing_rewritable : Rewritable ladder guessing
+guessing_rewritable = rewritable guessing tt tt tt refl refl refl refl
 
 pub counting_rewritable : Rewritable ladder counting
 counting_rewritable = rewritable counting tt tt tt refl refl refl refl

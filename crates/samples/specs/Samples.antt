@@ -34,7 +34,7 @@ use Rattle.meaning.specs.Rewriting.{rewritten, Rewritable}
 use Rattle.meaning.specs.Places.{plain, testing, places_in_script}
 use Rattle.meaning.specs.Runs.{open_refusal, refusal}
 use Rattle.meaning.specs.Sessions.{opened, answers_from}
-use Rattle.samples.specs.Scripts.{empty, writing, releasing, branching, looping, replacing, choosing, marking, counting, nesting, writing_up, writing_high, writing_greatest}
+use Rattle.samples.specs.Scripts.{empty, writing, releasing, branching, looping, replacing, choosing, marking, releasing_inside, guessing, counting, nesting, writing_up, writing_high, writing_greatest}
 
 -- lines of text, with a line feed behind each
 abbrev pub lines : List String → List ℕ
@@ -87,6 +87,10 @@ pub record Samples : Type 0 where
       ("var h : 1 ;" ∷ "var p : 0 ;" ∷ "if h then" ∷ "p := 1 ;" ∷ "else" ∷ "skip ;" ∷ "end ;" ∷ "write 0 p ;" ∷ []) choosing
   pub marking_text : Texts "var h : 1; var k : 1; var p : 0; if h then k := 1; else skip; end; p := declassify(k); write 0 p;"
       ("var h : 1 ;" ∷ "var k : 1 ;" ∷ "var p : 0 ;" ∷ "if h then" ∷ "k := 1 ;" ∷ "else" ∷ "skip ;" ∷ "end ;" ∷ "p := declassify ( k ) ;" ∷ "write 0 p ;" ∷ []) marking
+  pub releasing_inside_text : Texts "var h : 1; var p : 0; if h then p := declassify(h); else skip; end; write 0 p;"
+      ("var h : 1 ;" ∷ "var p : 0 ;" ∷ "if h then" ∷ "p := declassify ( h ) ;" ∷ "else" ∷ "skip ;" ∷ "end ;" ∷ "write 0 p ;" ∷ []) releasing_inside
+  pub guessing_text : Texts "var k : 1; var g : 0; var p : 0; g := k; p := declassify(g); write 0 p;"
+      ("var k : 1 ;" ∷ "var g : 0 ;" ∷ "var p : 0 ;" ∷ "g := k ;" ∷ "p := declassify ( g ) ;" ∷ "write 0 p ;" ∷ []) guessing
   pub counting_text : Texts "var n : 0; while n do write 0 n; n := (n - 1); end;"
       ("var n : 0 ;" ∷ "while n do" ∷ "write 0 n ;" ∷ "n := ( n - 1 ) ;" ∷ "end ;" ∷ []) counting
   pub nesting_text : Texts "var h : 1; var p : 0; if h then p := declassify((h + p)); else while p do p := (p - 1); end; end; write 1 p;"
@@ -297,6 +301,32 @@ pub record Samples : Type 0 where
       ∷ (Finish, Done)
       ∷ (ReadLine 0, Kept (line_of 0 (pos 0)))
       ∷ (Totals, Sums 1 19 Ended)
+      ∷ [])
+  -- A release within a private branch is not made, and p is raised behind the branch, whichever arm was taken: 15 steps and no line for h 0 and
+  -- for h 1. Rules that raise p only in the arm that was not taken would write a line for h 1.
+  pub releasing_inside_zero : RunsRewritten releasing_inside 1000 one_line
+      ((Enter 0 (pos 0), Done) ∷ (Start, Started MoreToDo) ∷ (Go 100, Went 15 Ended) ∷ (Finish, Done) ∷ (Totals, Sums 0 15 Ended) ∷ [])
+  pub releasing_inside_one : RunsRewritten releasing_inside 1000 one_line
+      ((Enter 0 (pos 1), Done) ∷ (Start, Started MoreToDo) ∷ (Go 100, Went 15 Ended) ∷ (Finish, Done) ∷ (Totals, Sums 0 15 Ended) ∷ [])
+  -- g was assigned before it is released, so the release is not made, also where g has its opening value again: with the guess 7 in g, 14 steps and
+  -- the line (0, 0) for k 7 and for k 8. Rules that compare values would write (0, 7) for k 7.
+  pub guessing_right : RunsRewritten guessing 1000 one_line
+      ((Enter 0 (pos 7), Done)
+      ∷ (Enter 1 (pos 7), Done)
+      ∷ (Start, Started MoreToDo)
+      ∷ (Go 100, Went 14 Ended)
+      ∷ (Finish, Done)
+      ∷ (ReadLine 0, Kept (line_of 0 (pos 0)))
+      ∷ (Totals, Sums 1 14 Ended)
+      ∷ [])
+  pub guessing_wrong : RunsRewritten guessing 1000 one_line
+      ((Enter 0 (pos 8), Done)
+      ∷ (Enter 1 (pos 7), Done)
+      ∷ (Start, Started MoreToDo)
+      ∷ (Go 100, Went 14 Ended)
+      ∷ (Finish, Done)
+      ∷ (ReadLine 0, Kept (line_of 0 (pos 0)))
+      ∷ (Totals, Sums 1 14 Ended)
       ∷ [])
   -- Opening: 9 for reader 16, which is no code of the ladder, whatever the bank; 12 for a bank of one register less than the 6 variables; 9 for a
   -- script that writes at level 16; all at place 0.

@@ -54,6 +54,18 @@ marking =
     script (declare "h" 1 ∷ declare "k" 1 ∷ declare "p" 0 ∷ [])
     (then (branch (variable 0) (single (assign 1 (number 1))) (single skip)) (then (release 2 (variable 1)) (single (write 0 (variable 2)))))
 
+-- var h : 1; var p : 0; if h then p := declassify(h); else skip; end; write 0 p;
+abbrev pub releasing_inside : Script
+releasing_inside =
+    script (declare "h" 1 ∷ declare "p" 0 ∷ [])
+    (then (branch (variable 0) (single (release 1 (variable 0))) (single skip)) (single (write 0 (variable 1))))
+
+-- var k : 1; var g : 0; var p : 0; g := k; p := declassify(g); write 0 p;
+abbrev pub guessing : Script
+guessing =
+    script (declare "k" 1 ∷ declare "g" 0 ∷ declare "p" 0 ∷ [])
+    (then (assign 1 (variable 0)) (then (release 2 (variable 1)) (single (write 0 (variable 2)))))
+
 -- var n : 0; while n do write 0 n; n := (n - 1); end;
 abbrev pub counting : Script
 counting = script (declare "n" 0 ∷ []) (single (while (variable 0) (then (write 0 (variable 0)) (single (assign 0 (apply Subtract (variable 0) (number 1)))))))

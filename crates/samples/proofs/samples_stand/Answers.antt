@@ -18,6 +18,8 @@ returns c = record {
   replacing_text = record { text_of = text_of tt refl refl script.replacing_formed; spelled = refl };
   choosing_text = record { text_of = text_of tt refl refl script.choosing_formed; spelled = refl };
   marking_text = record { text_of = text_of tt refl refl script.marking_formed; spelled = refl };
+  releasing_inside_text = record { text_of = text_of tt refl refl script.releasing_inside_formed; spelled = refl };
+  guessing_text = record { text_of = text_of tt refl refl script.guessing_formed; spelled = refl };
   counting_text = record { text_of = text_of tt refl refl script.counting_formed; spelled = refl };
   nesting_text = record { text_of = text_of tt refl refl script.nesting_formed; spelled = refl };
   writing_up_text = record { text_of = text_of tt refl refl script.writing_up_formed; spelled = refl };
@@ -53,6 +55,10 @@ returns c = record {
   choosing_one = (script.choosing_rewritable, (refl, refl));
   marking_zero = (script.marking_rewritable, (refl, refl));
   marking_one = (script.marking_rewritable, (refl, refl));
+  releasing_inside_zero = (script.releasing_inside_rewritable, (refl, refl));
+  releasing_inside_one = (script.releasing_inside_rewritable, (refl, refl));
+  guessing_right = (script.guessing_rewritable, (refl, refl));
+  guessing_wrong = (script.guessing_rewritable, (refl, refl));
   reader_no_code = refl;
   reader_first = refl;
   bank_enough = refl;
