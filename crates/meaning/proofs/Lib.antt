@@ -44,6 +44,7 @@ pub mod FlowLaws
 pub mod GeneratedNames
 pub mod RewrittenStatements
 pub mod Openings
+pub mod PlaceCounts
 pub mod WellFormedness
 pub mod Tolls
 -- runs by structure

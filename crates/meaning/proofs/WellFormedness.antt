@@ -11,6 +11,7 @@ use Rattle.meaning.specs.Rules.{level_register, rewritten_in}
 use Rattle.meaning.specs.Rewriting.{variables, levels_of, first_rows, rewritten}
 use Rattle.meaning.specs.WellFormedness.{RewrittenScripts}
 use Rattle.meaning.proofs.GeneratedNames.{well_declared_lem, length-extended, enterable-extended}
+use Rattle.meaning.proofs.PlaceCounts.{aligned, tests_are_ifs}
 use Rattle.meaning.proofs.Openings.{opens_rewritten, opens_bought}
 use Rattle.meaning.proofs.RewrittenStatements.{Stands, all, stands_none, stands_then, stands_assign, stands-join, stands_in, ready_number}
 
@@ -31,6 +32,8 @@ stands G laws s w r = record {
   few = omega (arith, count, few, low);
   nested = omega (arith, body.nested, low);
   shallow = body.shallow;
+  aligned = aligned G s;
+  tests_are_ifs = tests_are_ifs G laws s w r;
   own_enterable = enterable-extended ds v n r.names;
   held = reads (rewritten G s) _ _ _ formed (record { declarations_are = refl; rows_are = refl; nodes_are = refl });
   opens = opens_rewritten G laws s r;

@@ -9,9 +9,10 @@
 --
 -- Example: `if h then write 0 1; else skip; end;` has, for the rows of its rewriting, the places
 --   0 (guard), 0 (if), 1 test, 1, 1, 1, 1 (the line with its test), 0 (else), 1 (skip), 1, 1 (padding), 0 (end)
-use Rattle.std.specs.Prelude.{ℕ, zero, suc, ◌-◌, Bool, true, false, ◌||◌, List, [], ◌∷◌, ◌++◌, replicate}
+use Rattle.std.specs.Prelude.{ℕ, zero, suc, ◌-◌, Bool, true, false, ◌||◌, List, [], ◌∷◌, ◌++◌, replicate, Some, None, Option}
 use Rattle.values.specs.declared.Operator.{Operator}
 use Rattle.syntax.specs.Trees.{Expression, Statement, Statements, none, then, skip, assign, release, write, stop, branch, while}
+use Rattle.syntax.specs.Form.{TreeRow, skips, assigns, releases, writes, stops, branches, leaves, closes, repeats, goes_back}
 use Rattle.syntax.specs.Parts.{row_counts}
 use Rattle.syntax.specs.Scripts.{Script}
 use Rattle.meaning.specs.Families.{Family, joiner}
@@ -80,6 +81,20 @@ place_at (x ∷ places) (suc p) = place_at places p
 -- the guard level of row p
 abbrev pub guard_at : Family → Script → ℕ → Expression
 guard_at G s p = guard_of (variables s) (place_at (places_in_script G s) p).depth
+
+-- whether a row is an `if`
+abbrev pub is_if : Option TreeRow → Bool
+is_if None = false
+is_if (Some skips) = false
+is_if (Some (assigns v e)) = false
+is_if (Some (releases v e)) = false
+is_if (Some (writes t e)) = false
+is_if (Some (stops n)) = false
+is_if (Some (branches e m)) = true
+is_if (Some (leaves m)) = false
+is_if (Some closes) = false
+is_if (Some (repeats e m)) = false
+is_if (Some (goes_back m)) = false
 
 -- whether row p tests if a line or a release is withheld
 abbrev pub is_test : Family → Script → ℕ → Bool
