@@ -2,7 +2,6 @@
 use Rattle.std.proofs.Common.{◌≡◌, ℕ, zero, suc, ◌+◌, ◌-◌, ◌<◌, ◌≤◌, Bool, true, false, cond, eqb, ltb, List, [], ◌∷◌, length, get_or, set, ℤ, pos, sym, refl, ap, ◌∙◌, subst, ap₂, subst₂, arith, length-set, get_or-take}
 use mathlib.Core.Bool.{false≢true}
 use native.Mathlib.Decide.{dec_lt}
-use Rattle.std.proofs.lemmas.List.{get_or-set_same, get_or-set_other}
 use Rattle.std.proofs.lemmas.Bool.{eqb-true, eqb-false, ltb-true}
 use Rattle.refusals.specs.declared.Reason.TheVariants as reason
 use Rattle.banks.specs.Cleared.{cleared}
@@ -28,16 +27,9 @@ use Rattle.meaning.proofs.Bridge.{nesting_in_lem}
 use Rattle.meaning.proofs.Setup.{level_values, count_levels, level_value, not_enterable, count_rewritten, script, codes, level_code, well, reads, rewritten-rows, flows_family}
 use Rattle.meaning.proofs.Together.{SameOpening, Alike, same_run, long_enough, has_registers}
 use Rattle.meaning.proofs.Alone.{all_split}
+use Rattle.meaning.proofs.BankLaws.{register_set, register_other, register_cleared}
 
 -- ---- registers while a run is filled
-
--- `open` clears the variables' registers
-pub cleared_zero : (n : ℕ) (bank : List ℤ) (i : ℕ) → i < n → register (cleared n bank) i ≡ pos 0
-unfolding cleared
-cleared_zero zero bank i h = absurd (omega arith)
-cleared_zero (suc n) [] i h = refl
-cleared_zero (suc n) (v ∷ bank) zero h = refl
-cleared_zero (suc n) (v ∷ bank) (suc i) h = cleared_zero n bank i (omega arith)
 
 pub cleared-length : (n : ℕ) (bank : List ℤ) → length (cleared n bank) ≡ length bank
 unfolding cleared
@@ -60,7 +52,7 @@ module _ (P : Script) where
     where
       go : (a b : Bool) → enterable P K ≡ b → register (cond a bank (cond b (set bank K v) bank)) i ≡ register bank i
       go true b q = refl
-      go false true q = get_or-set_other bank K i v (pos 0) (λ e. false≢true (sym h ∙ ap (enterable P) e ∙ q))
+      go false true q = register_other bank K i v (λ e. false≢true (sym h ∙ ap (enterable P) e ∙ q))
       go false false q = refl
 
 -- the same entry for two programs that take the same entries, in two banks
@@ -75,10 +67,10 @@ entered_same P Q K u v b c hb hc he i lb lc eq e =
         let is : K ≡ i = eqb-true K i r in
         let kb : K < length b = subst (λ j. j < length b) (sym is) lb in
         let kc : K < length c = subst (λ j. j < length c) (sym is) lc in
-        subst (λ j. register (set b K u) j ≡ register (set c K v) j) is (get_or-set_same b K u (pos 0) kb ∙ eq is ∙ sym (get_or-set_same c K v (pos 0) kc))
+        subst (λ j. register (set b K u) j ≡ register (set c K v) j) is (register_set b K u kb ∙ eq is ∙ sym (register_set c K v kc))
     go true false r =
         let apart : ¬ (i ≡ K) = λ x. eqb-false K i r (sym x) in
-        get_or-set_other b K i u (pos 0) apart ∙ e ∙ sym (get_or-set_other c K i v (pos 0) apart)
+        register_other b K i u apart ∙ e ∙ sym (register_other c K i v apart)
 
 module _ (G : Family) (L : FamilyLaws G) (reader : ℕ) (crd : IsCode G reader) (budget : ℕ) (s : Script) (wf : WellFormed s) (ok : Rewritable G s) where
   abbrev prog : Script
@@ -296,11 +288,11 @@ module _ (G : Family) (L : FamilyLaws G) (reader : ℕ) (crd : IsCode G reader) 
   opened_filled b c hb hc = record {
     room1 = subst (λ x. variables prog ≤ x) (sym (cleared-length (variables prog) b)) hb;
     room2 = subst (λ x. variables prog ≤ x) (sym (cleared-length (variables prog) c)) hc;
-    zero1 = λ i x y. cleared_zero (variables prog) b i y;
-    zero2 = λ i x y. cleared_zero (variables prog) c i y;
+    zero1 = λ i x y. register_cleared (variables prog) b i y;
+    zero2 = λ i x y. register_cleared (variables prog) c i y;
     agree = λ K x y.
         let k : K < variables prog = in_rewritten K x in
-        cleared_zero (variables prog) b K k ∙ sym (cleared_zero (variables prog) c K k);
+        register_cleared (variables prog) b K k ∙ sym (register_cleared (variables prog) c K k);
   }
     where
       in_rewritten : (K : ℕ) → K < n → K < variables prog

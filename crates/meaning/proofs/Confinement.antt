@@ -33,7 +33,8 @@ use Rattle.meaning.proofs.Bridge.{nesting_in_lem, guard_tree}
 use Rattle.meaning.proofs.Together.{long_enough, has_registers}
 use Rattle.meaning.proofs.Alone.{calls_made, to_start}
 use Rattle.meaning.proofs.Setup.{level_values, count_levels, count_rewritten, not_enterable, enterable_same, script, codes, well, reads, rewritten_row, rewritten-rows, bought_rows, place_of_row}
-use Rattle.meaning.proofs.Calls.{cleared_zero, cleared-length, entered_length, entered_other, entered_same, alike}
+use Rattle.meaning.proofs.BankLaws.{register_cleared}
+use Rattle.meaning.proofs.Calls.{cleared-length, entered_length, entered_other, entered_same, alike}
 use Rattle.meaning.proofs.Endings.{ended_rows, rows_settle, settles}
 
 -- ---- what an accepted `open` tells
@@ -110,7 +111,7 @@ module _ (G : Family) (L : FamilyLaws G) (reader : ℕ) (crd : IsCode G reader) 
   opening_match : (cs : List Call) (bank : List ℤ) → variables prog ≤ length bank → Matching (opening_bank prog cs bank) (beginning m (opening_bank prog cs bank))
   opening_match cs bank h = begins m H (opening_bank prog cs bank)
       (subst₂' total (sym (enter_all_length prog (entries cs) (opened_bank prog bank) ∙ cleared-length (variables prog) bank)) h)
-      (λ i x y. enter_all_other prog (entries cs) (opened_bank prog bank) i (not_enterable G s i (subst (λ k. k ≤ i) (count_levels s) x)) ∙ cleared_zero (variables prog) bank i (subst (λ k. i < k) total y))
+      (λ i x y. enter_all_other prog (entries cs) (opened_bank prog bank) i (not_enterable G s i (subst (λ k. k ≤ i) (count_levels s) x)) ∙ register_cleared (variables prog) bank i (subst (λ k. i < k) total y))
     where
       subst₂' : {a b c d : ℕ} → a ≡ b → c ≡ d → b ≤ c → a ≤ d
       subst₂' p q r = omega arith
@@ -208,7 +209,7 @@ module _ (G : Family) (L : FamilyLaws G) (reader : ℕ) (crd : IsCode G reader) 
           let w : k < variables prog = in_rewritten k y in
           subst (λ e. register B₁ k ≡ register (enter_all s e (opened_bank s bank₂)) k) es
           (enter_all_same prog s (enterable_same G s) (entries cs) (opened_bank prog bank₁) (opened_bank s bank₂) long₁ long₂ k (le_two w long₁) (le_two y long₂)
-          (cleared_zero (variables prog) bank₁ k w ∙ sym (cleared_zero (variables s) bank₂ k y)))
+          (register_cleared (variables prog) bank₁ k w ∙ sym (register_cleared (variables s) bank₂ k y)))
         where
           in_rewritten : (k : ℕ) → k < variables s → k < variables prog
           in_rewritten k y = let c = count_rewritten G s in omega arith

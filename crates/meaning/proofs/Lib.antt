@@ -4,6 +4,8 @@
 -- that rewritten code keeps the tie (NamedCode to TwoRuns, Releases, Bought). Then the named rows are shown to be the rows of the rules, and a bank's
 -- numbered registers to keep step with the named ones (Numbers to BridgePlaces). Last, runs and lists of calls (Together to Confinement).
 
+-- registers of a bank
+pub mod BankLaws
 -- the machine and the rules by named registers
 pub mod NamedCode
 pub mod NamedRules

@@ -4,7 +4,6 @@
 -- use, what the named registers hold. Then a row shows the same, goes on to the same row, and leaves registers that match again.
 use Rattle.std.proofs.Common.{◌≡◌, ℕ, zero, suc, ◌<◌, Bool, true, false, cond, ◌&&◌, eqb, List, length, set, ℤ, pos, negsuc, Some, None, Option, sym, refl, ap, ◌∙◌, subst, ap₂, length-set}
 use mathlib.Core.Bool.{false≢true}
-use Rattle.std.proofs.lemmas.List.{get_or-set_same, get_or-set_other}
 use Rattle.std.specs.Ordering.{int_eq}
 use Rattle.std.proofs.lemmas.Bool.{eqb-true, eqb-false}
 use Rattle.values.specs.Operators.{operate}
@@ -18,6 +17,7 @@ use Rattle.meaning.proofs.NamedCode.{Value, IsMachineCode, Exp, num, var, op, Re
 use Rattle.meaning.proofs.Registers.{same_reg, effect}
 use Rattle.meaning.proofs.Interpretations.{machine, int_eq_pos, joiner_joins}
 use Rattle.meaning.proofs.Relations.{Same, SameFigure}
+use Rattle.meaning.proofs.BankLaws.{register_set, register_other}
 
 -- the number of a register, with n own variables
 abbrev pub register_number : ℕ → Reg → ℕ
@@ -95,9 +95,9 @@ module _ (n : ℕ) (V : Reg → Type 0) (apart : (r q : Reg) → V r → V q →
         go : (q : Reg) → V q → (b : Bool) → eqb (register_number n r) (register_number n q) ≡ b → register (set bank (register_number n r) u) (register_number n q) ≡ cond b v (ρ q)
         go q x true h =
             let same : register_number n r ≡ register_number n q = eqb-true (register_number n r) (register_number n q) h in
-            ap (register (set bank (register_number n r) u)) (sym same) ∙ get_or-set_same bank (register_number n r) u (pos 0) (m.room r w) ∙ e
+            ap (register (set bank (register_number n r) u)) (sym same) ∙ register_set bank (register_number n r) u (m.room r w) ∙ e
         go q x false h =
-            get_or-set_other bank (register_number n r) (register_number n q) u (pos 0) (λ y. eqb-false (register_number n r) (register_number n q) h (sym y)) ∙ m.is q x
+            register_other bank (register_number n r) (register_number n q) u (λ y. eqb-false (register_number n r) (register_number n q) h (sym y)) ∙ m.is q x
 
     pub effect_match : {bank : List ℤ} {ρ : Reg → Value} (r : Row Reg) → ValidR G r → Match bank ρ → Match (registers_after (tree_row n r) bank) (effect F r ρ)
     effect_match rskip w m = m

@@ -1,9 +1,8 @@
 -- What holds of every run: steps, settled standings, lines, values.
-use Rattle.std.proofs.Common.{◌≡◌, ℕ, zero, suc, ◌+◌, ◌<◌, ◌≤◌, Bool, true, false, cond, ◌||◌, ltb, List, [], ◌∷◌, length, take, drop, set, ℤ, Some, None, Option, sym, refl, ap, ◌∙◌, subst, ap₂, suc-add, zero-add, arith, w32, SFits}
+use Rattle.std.proofs.Common.{◌≡◌, ℕ, zero, suc, ◌+◌, ◌<◌, ◌≤◌, Bool, true, false, cond, ◌||◌, ltb, List, [], ◌∷◌, length, take, drop, ℤ, Some, None, Option, sym, refl, ap, ◌∙◌, subst, ap₂, suc-add, zero-add, arith, w32, SFits}
 use Rattle.std.proofs.lemmas.Bool.{le-ltb, ltb-false, or_parts}
 use Rattle.std.proofs.lemmas.List.{take-set-le, drop-set-lt}
 use mathlib.Core.Bool.{false≢true}
-use Rattle.banks.specs.Cleared.{cleared}
 use Rattle.values.proofs.Keeps as operator
 use Rattle.syntax.specs.Trees.{Expression, number, variable, apply, InRange}
 use Rattle.syntax.specs.Form.{TreeRow, skips, assigns, releases, writes, stops, branches, leaves, closes, repeats, goes_back, tree_rows, row_after_in}
@@ -21,6 +20,7 @@ use Rattle.meaning.specs.RunLaws.{AllValues, RunLawsHold}
 use Rattle.meaning.proofs.Together.{going_settle, going_room, Room, kept_room, length_sheet, length_registers}
 use Rattle.meaning.proofs.Endings.{judge-more, settles}
 use Rattle.meaning.proofs.Alone.{run_keeps, all_unit}
+use Rattle.meaning.proofs.BankLaws.{values_set, values_cleared}
 
 -- ---- settled standings
 
@@ -68,20 +68,6 @@ kept_rises (stopped n) k = (omega arith, omega arith)
 
 -- ---- values
 
-set_values : (bank : List ℤ) (v : ℕ) (x : ℤ) → AllValues bank → SFits w32 x → AllValues (set bank v x)
-set_values [] v x h f i = h i
-set_values (y ∷ bank) zero x h f zero = f
-set_values (y ∷ bank) zero x h f (suc i) = h (suc i)
-set_values (y ∷ bank) (suc v) x h f zero = h zero
-set_values (y ∷ bank) (suc v) x h f (suc i) = set_values bank v x (λ k. h (suc k)) f i
-
-cleared_values : (n : ℕ) (bank : List ℤ) → AllValues bank → AllValues (cleared n bank)
-unfolding cleared
-cleared_values zero bank h i = h i
-cleared_values (suc n) [] h i = h i
-cleared_values (suc n) (y ∷ bank) h zero = record { sfits = omega arith }
-cleared_values (suc n) (y ∷ bank) h (suc i) = cleared_values n bank (λ k. h (suc k)) i
-
 -- either bank, whichever a test takes
 either_values : (t : Bool) (b c : List ℤ) → AllValues b → AllValues c → AllValues (cond t b c)
 either_values true b c h g = h
@@ -104,8 +90,8 @@ row_fits k n (r ∷ rows) a (suc p) = row_fits k n rows a.1 p
 after_values : (k n : ℕ) (r : Option TreeRow) (bank : List ℤ) → Fitting k n r → AllValues bank → AllValues (registers_after r bank)
 after_values k n None bank f h = h
 after_values k n (Some skips) bank f h = h
-after_values k n (Some (assigns v e)) bank f h = set_values bank v _ h (value_fits k bank h e f.1.ranged)
-after_values k n (Some (releases v e)) bank f h = set_values bank v _ h (value_fits k bank h e f.1.ranged)
+after_values k n (Some (assigns v e)) bank f h = values_set bank v _ h (value_fits k bank h e f.1.ranged)
+after_values k n (Some (releases v e)) bank f h = values_set bank v _ h (value_fits k bank h e f.1.ranged)
 after_values k n (Some (writes t e)) bank f h = h
 after_values k n (Some (stops m)) bank f h = h
 after_values k n (Some (branches e m)) bank f h = h
@@ -246,7 +232,7 @@ module _ (G : Family) (reader budget : ℕ) (P : Script) where
       up p q = omega arith
 
   values_entered : (bank : List ℤ) (k : ℕ) (v : ℤ) → SFits w32 v → AllValues bank → AllValues (entered_bank P bank k v)
-  values_entered bank k v f h = either_values (lacks_registers P bank) _ _ h (either_values (enterable P k) _ _ (set_values bank k v h f) h)
+  values_entered bank k v f h = either_values (lacks_registers P bank) _ _ h (either_values (enterable P k) _ _ (values_set bank k v h f) h)
 
   values_stay : WellFormed P → (n : ℕ) (s : Progress) → AllValues s.bank → AllValues (Run n s).bank
   values_stay wf = keeps (λ t. AllValues t.bank) (λ t j. j) (λ t j e.
@@ -268,7 +254,7 @@ run_laws G reader budget P = record {
   no_more_than_steps = no_more_than_steps G reader budget P;
   lines_stay = lines_stay G reader budget P;
   rest_stays = rest_stays G reader budget P;
-  values_opened = cleared_values (variables P);
+  values_opened = values_cleared (variables P);
   values_entered = values_entered G reader budget P;
   values_stay = values_stay G reader budget P;
 }

@@ -16,7 +16,7 @@ use Rattle.meaning.specs.declared.answers.Line.{Line}
 use Rattle.meaning.specs.Families.{Family, flows}
 
 -- what a register holds; one that the bank does not have reads as 0
-abbrev pub register : List ℤ → ℕ → ℤ
+unfoldable pub register : List ℤ → ℕ → ℤ
 register bank v = slice_index_or bank v (pos 0)
 
 -- the value of an expression
@@ -76,7 +76,7 @@ registers_after (Some (repeats e m)) bank = bank
 registers_after (Some (goes_back m)) bank = bank
 
 -- what a line carries
-abbrev pub line_of : ℕ → ℤ → Line
+unfoldable pub line_of : ℕ → ℤ → Line
 line_of t v = record { level = t; value = v }
 
 -- what taking a row shows a reader

@@ -3,12 +3,13 @@ use Rattle.std.proofs.Common.{refl}
 use Rattle.std.specs.Fmt.{digits}
 use Rattle.std.specs.Int.{int_wrap}
 use Rattle.banks.specs.Cleared.{cleared}
+use Rattle.meaning.specs.Machine.{register, line_of}
 use Rattle.samples.proofs.Scanning.{text_of, judged}
 use Rattle.samples.proofs.Scripts as script
 use Rattle.samples.proofs.samples_stand.Goals as goal
 
 pub returns : goal.returns
-unfolding digits int_wrap cleared
+unfolding digits int_wrap cleared register line_of
 returns c = record {
   empty_text = record { text_of = text_of tt refl refl script.empty_formed; spelled = refl };
   writing_text = record { text_of = text_of tt refl refl script.writing_formed; spelled = refl };
