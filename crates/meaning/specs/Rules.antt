@@ -47,6 +47,25 @@ guard_of v (suc d) = variable (guard_register v d)
 abbrev pub guarded_level : ℕ → Operator → ℕ → Expression → Expression
 guarded_level v j d e = apply j (level_of v j e) (guard_of v d)
 
+-- the toll of a rewritten list without whiles is the steps that it takes: an `if` takes its own row, an arm, and its `else` or its `end`
+abbrev mutual
+  pub toll : Statement → ℕ
+  toll skip = row_steps skips
+  toll (assign k e) = row_steps (assigns k e)
+  toll (release k e) = row_steps (releases k e)
+  toll (write t e) = row_steps (writes t e)
+  toll (stop n) = row_steps (stops n)
+  toll (branch e A B) = row_steps (branches e 0) + tolls A + row_steps (leaves 0)
+  toll (while e A) = 0
+
+  pub tolls : Statements → ℕ
+  tolls none = 0
+  tolls (then s l) = toll s + tolls l
+
+abbrev pub padding : ℕ → Statements
+padding zero = none
+padding (suc n) = then skip (padding n)
+
 -- an assignment of e to variable k
 abbrev pub rewritten_assign : ℕ → Operator → ℕ → ℕ → Expression → Statements
 rewritten_assign v j d k e =
@@ -58,21 +77,26 @@ rewritten_assign v j d k e =
 abbrev pub released_level : Expression
 released_level = number 0
 
--- a release of e into variable k: made only where the guard level is 0 and no variable of e is marked
+-- what a release that is made does
+abbrev pub released : ℕ → ℕ → Expression → Statements
+released v k e =
+    then (assign (level_register v k) released_level)
+    (then (assign (mark_register v k) (number 1))
+    (single (release k e)))
+
+-- a release of e into variable k: made only where the guard level is 0 and no variable of e is marked, and else padding of the same toll
 abbrev pub rewritten_release : ℕ → ℕ → ℕ → Expression → Statements
 rewritten_release v d k e =
     single (branch (apply Equal (apply Maximum (guard_of v d) (mark_of v e)) (number 0))
-    (then (assign (level_register v k) released_level)
-    (then (assign (mark_register v k) (number 1))
-    (single (release k e))))
-    (then skip (then skip (single skip))))
+    (released v k e)
+    (padding (tolls (released v k e))))
 
--- a line of e at level t: written only where the level of e under the guard flows to t
+-- a line of e at level t: written only where the level of e under the guard flows to t, and else padding of the same toll
 abbrev pub rewritten_write : ℕ → Operator → ℕ → ℕ → Expression → Statements
 rewritten_write v j d t e =
     single (branch (apply Equal (apply j (guarded_level v j d e) (number t)) (number t))
     (single (write t e))
-    (single skip))
+    (padding (tolls (single (write t e)))))
 
 -- stops with n where register g is not 0
 abbrev pub stop_check : ℕ → ℕ → Statement
@@ -123,25 +147,6 @@ raised v j g (k ∷ ks) =
 
 abbrev pub raised_after : ℕ → Operator → ℕ → Statements → Statements → Statements
 raised_after v j g A B = raised v j g (rising v (λ k. changes_in A k || changes_in B k))
-
--- the toll of a rewritten list without whiles is the steps that it takes: an `if` takes its own row, an arm, and its `else` or its `end`
-abbrev mutual
-  pub toll : Statement → ℕ
-  toll skip = row_steps skips
-  toll (assign k e) = row_steps (assigns k e)
-  toll (release k e) = row_steps (releases k e)
-  toll (write t e) = row_steps (writes t e)
-  toll (stop n) = row_steps (stops n)
-  toll (branch e A B) = row_steps (branches e 0) + tolls A + row_steps (leaves 0)
-  toll (while e A) = 0
-
-  pub tolls : Statements → ℕ
-  tolls none = 0
-  tolls (then s l) = toll s + tolls l
-
-abbrev pub padding : ℕ → Statements
-padding zero = none
-padding (suc n) = then skip (padding n)
 
 -- the script's `if` between its rewritten arms: with a check before it where an arm holds a `while`, and else with arms of equal toll
 abbrev pub rewritten_arms : Bool → ℕ → Expression → Statements → Statements → Statements
