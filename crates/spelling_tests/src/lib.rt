@@ -33,6 +33,7 @@ fn declarations() -> [Declaration; 2] {
     ]
 }
 
+// The tests of syntax write these lists out too: a sample in a crate of its own would be read apart from what is expected of it.
 fn rows() -> [Row; 10] {
     [
         Row::While {
