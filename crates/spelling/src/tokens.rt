@@ -96,6 +96,11 @@ pub fn put_name(out: &mut Places<u8>, name: &Name)
 pub fn put_numeral(out: &mut Places<u8>, number: u32)
     ensures { Put out.old out.new (token_bytes (a_numeral number)) }
 {
+    // most numerals have one digit, which is soon written
+    if number < 10 {
+        put_word(out, &[b'0' + number as u8], SPACE);
+        return;
+    }
     let mut digits = Buffer::new();
     put_word(out, digits.format(number).as_bytes(), SPACE);
 }
