@@ -96,7 +96,7 @@ pub fn put_name(out: &mut Places<u8>, name: &Name)
 pub fn put_numeral(out: &mut Places<u8>, number: u32)
     ensures { Put out.old out.new (token_bytes (a_numeral number)) }
 {
-    // most numerals have one digit, which is soon written
+    // one digit is written without a buffer, which would cost more than all the rest
     if number < 10 {
         put_word(out, &[b'0' + number as u8], SPACE);
         return;
