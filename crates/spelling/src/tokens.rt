@@ -96,7 +96,7 @@ pub fn put_name(out: &mut Places<u8>, name: &Name)
 pub fn put_numeral(out: &mut Places<u8>, number: u32)
     ensures { Put out.old out.new (token_bytes (a_numeral number)) }
 {
-    // one digit is written without a buffer, which would cost more than all the rest
+    // one digit is written without the buffer that `itoa` makes ready for each number
     if number < 10 {
         put_word(out, &[b'0' + number as u8], SPACE);
         return;
